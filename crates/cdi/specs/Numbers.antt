@@ -1,0 +1,28 @@
+-- "A number is an optional minus and one or more decimal digits, nothing else; leading zeros are allowed."
+use mathlib.Core.List.{List, [], _∷_}
+use mathlib.Core.Bool.{Bool, true, false, cond, _&&_}
+use mathlib.Core.Option.{Option, none, some}
+use Prim.Native.Nat.{ℕ, _-_, _^_}
+use lib.IntN.{ℤ, pos, negℤ}
+use lib.Signed.{leZ}
+use Rattle.cdi.specs.Words.{ascii, _>>=_, _orElse_, isEmpty, all, strip}
+use Rattle.cdi.specs.Pieces.{digit, decimal}
+
+unfoldable pub digits : List ℕ → Option ℕ
+digits s = cond (isEmpty s) none (cond (all digit s) (some (decimal 0 s)) none)
+
+unfoldable pub number : List ℕ → Option ℤ
+number s =
+    (strip (ascii "-") s >>= λ t. digits t >>= λ n. some (negℤ (pos n)))
+    orElse (digits s >>= λ n. some (pos n))
+
+unfoldable pub within : ℤ → ℤ → ℤ → Bool
+within lo hi z = leZ lo z && leZ z hi
+
+-- "numbers from -2^63 to 2^64 - 1"
+unfoldable pub bounded : ℤ → Bool
+bounded z = within (negℤ (pos (2 ^ 63))) (pos (2 ^ 64 - 1)) z
+
+unfoldable pub numbers-page : Unit {0}
+unfolding digits number within bounded
+numbers-page = tt
