@@ -6,3 +6,6 @@ pub mod Zero
 pub mod Room
 pub mod Signs
 pub mod Walked
+pub mod Bytes
+pub mod Settings
+pub mod Back

@@ -77,6 +77,9 @@ up-le (pos m) (negsuc n) h = absurd (omega arith)
 up-le (negsuc m) (pos n) h = refl
 up-le (negsuc m) (negsuc n) h = le-leb n m (omega arith)
 
+pub le-trans : (x y z : ℤ) → leZ x y ≡ true → leZ y z ≡ true → leZ x z ≡ true
+le-trans x y z l m = up-le x z (omega (arith, le-up x y l, le-up y z m))
+
 -- an equation
 pub up-same : (y z : ℤ) → up y + down z ≡ up z + down y → y ≡ z
 unfolding up down

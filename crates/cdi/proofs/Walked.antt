@@ -14,7 +14,7 @@ use lib.Signed.{leZ}
 use Rattle.cdi.specs.Words.{all}
 use Rattle.cdi.specs.Numbers.{within}
 use Rattle.cdi.specs.Walk.{Step, add, stand, copies, moves, addresses, isAddress, keeps, change, count, Variable, variables}
-use Rattle.cdi.proofs.Tests.{both}
+use Rattle.cdi.proofs.Tests.{both, from-to}
 use Rattle.cdi.proofs.Signs.{up, down, sum, up-times, down-times, le-up, up-le, up-same, nought}
 
 -- ── one stretch after another ──
@@ -119,9 +119,9 @@ nth-of-copies (suc r) s a n d h = by (decLt n (count s)) (nth-of-copies r s (a +
 
 -- an address, as `omega` reads it
 address-up : (a : ℤ) → isAddress a ≡ true → (down a ≤ up a) × (up a ≤ 2 ^ 32 + down a)
-unfolding isAddress within up down
+unfolding isAddress up down
 address-up a h =
-    let p = both (leZ (pos 0) a) (leZ a (pos (2 ^ 32))) h in
+    let p = from-to (pos 0) (pos (2 ^ 32)) a h in
     (omega (arith, le-up (pos 0) a (p .0)), omega (arith, le-up a (pos (2 ^ 32)) (p .1)))
 
 up-address : (a : ℤ) → down a ≤ up a → up a ≤ 2 ^ 32 + down a → isAddress a ≡ true

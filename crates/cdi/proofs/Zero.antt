@@ -10,7 +10,7 @@ use borrow.Author.Tests.{ne-eqb}
 use lib.Dec.{eqb}
 use lib.IntN.{ℤ}
 use lib.ListN.{length, take}
-use lib.Seq.{take-append-seam}
+use lib.Seq.{take-append-seam, take-append-add}
 use Rattle.cdi.specs.Words.{given}
 use Rattle.cdi.specs.Faults.{Answer}
 use Rattle.cdi.specs.Text.{zeroFrom, endOf, content}
@@ -18,20 +18,25 @@ use Rattle.cdi.specs.Planning.{Description, Counts, ending, described, p
 use Rattle.cdi.specs.Access.{Window, Value, Reading, settingOf, written, windowAfter, read}
 
 -- no zero byte stands in c
-pub NoZero : List ℕ → Type 0
+unfoldable pub NoZero : List ℕ → Type 0
 NoZero [] = Unit
 NoZero (b ∷ c) = (b ≡ 0 → ⊥) × NoZero c
 
-zero-behind : (at n : ℕ) (c x : List ℕ) → NoZero c → length c < n → zeroFrom at (take n (c ++ 0 ∷ x)) ≡ some (at + length c)
+-- the first zero behind bytes without one
+pub zero-at : (at : ℕ) (c x : List ℕ) → NoZero c → zeroFrom at (c ++ 0 ∷ x) ≡ some (at + length c)
 unfolding zeroFrom NoZero
-zero-behind at zero c x h l = absurd (omega arith)
-zero-behind at (suc n) [] x h l = ap some (omega arith)
-zero-behind at (suc n) (b ∷ c) x h l = rw (ne-eqb b 0 (h .0)) (zero-behind (at + 1) n c x (h .1) (omega arith) ∙ ap some (omega arith))
+zero-at at [] x h = ap some (omega arith)
+zero-at at (b ∷ c) x h = rw (ne-eqb b 0 (h .0)) (zero-at (at + 1) c x (h .1) ∙ ap some (omega arith))
+
+in-time : (n : ℕ) (c x : List ℕ) → length c < n → take n (c ++ 0 ∷ x) ≡ c ++ 0 ∷ take (n - suc (length c)) x
+in-time n c x l =
+    let e : n ≡ length c + suc (n - suc (length c)) = omega arith in
+    ap (λ k. take k (c ++ 0 ∷ x)) e ∙ take-append-add c (0 ∷ x) (suc (n - suc (length c)))
 
 -- the content ends before the first zero
 pub content-is : (c x : List ℕ) → NoZero c → length c ≤ 65535 → content (c ++ 0 ∷ x) ≡ some c
 unfolding content endOf
-content-is c x h l = rw (zero-behind 0 65536 c x h (omega arith)) (ap some (rw zero-add (take-append-seam c (0 ∷ x))))
+content-is c x h l = rw (in-time 65536 c x (omega arith), zero-at 0 c _ h, zero-add) (ap some (take-append-seam c (0 ∷ x)))
 
 module _ (c x y : List ℕ) (h : NoZero c) (l : length c ≤ 65535) where
   -- planning up to 12
