@@ -26,7 +26,7 @@ use Rattle.cdi.specs.Access.{Window, Value, integer, event, string, Sett
 use Rattle.cdi.proofs.Bytes.{length-bytes, value-of-bytes, complement-fits, uncomplement-complement}
 use Rattle.cdi.proofs.Settings.{SettingFits}
 use Rattle.cdi.proofs.Signs.{le-trans}
-use Rattle.cdi.proofs.Tests.{both, from-to, in-range}
+use Rattle.cdi.proofs.Tests.{parts, ends, in-range}
 use Rattle.cdi.proofs.Zero.{NoZero, zero-at}
 
 -- ── causes ──
@@ -77,8 +77,8 @@ record Lies (w : Window) (v : Found) : Type 0 where
 lies : (w : Window) (v : Found) → isInside w v ≡ true → Lies w v
 unfolding isInside
 lies w v h =
-    let a = both (eqb (w .space) (v .space)) (leb (w .first) (v .address) && leb (v .address + v .size) (w .first + length (w .bytes))) h in
-    let b = both (leb (w .first) (v .address)) (leb (v .address + v .size) (w .first + length (w .bytes))) (a .1) in
+    let a = parts (eqb (w .space) (v .space)) (leb (w .first) (v .address) && leb (v .address + v .size) (w .first + length (w .bytes))) h in
+    let b = parts (leb (w .first) (v .address)) (leb (v .address + v .size) (w .first + length (w .bytes))) (a .1) in
     record { space = eqb-true _ _ (a .0); low = leb-true _ _ (b .0); high = leb-true _ _ (b .1) }
 
 module _ (at : ℕ) (new bytes : List ℕ) (fits : at + length new ≤ length bytes) where
@@ -132,8 +132,8 @@ record GoodText (s : Setting) (t : List ℕ) : Type 0 where
 good-text : (s : Setting) (t : List ℕ) → isGoodText s (string t) ≡ true → GoodText s t
 unfolding isGoodText
 good-text s t h =
-    let a = both (not (any (eqb 0) t)) (isUtf8 t && ltb (length t) (s .variable .size)) h in
-    let b = both (isUtf8 t) (ltb (length t) (s .variable .size)) (a .1) in
+    let a = parts (not (any (eqb 0) t)) (isUtf8 t && ltb (length t) (s .variable .size)) h in
+    let b = parts (isUtf8 t) (ltb (length t) (s .variable .size)) (a .1) in
     record { zeros = not-true _ (a .0); utf8 = b .0; short = ltb-true _ _ (b .1) }
 
 -- as many bytes as the variable has
@@ -158,9 +158,9 @@ text-back n t z u l =
 storable-between : (signed : Bool) (n : ℕ) (lo hi z : ℤ) → storable signed n lo ≡ true → storable signed n hi ≡ true → within lo hi z ≡ true → storable signed n z ≡ true
 unfolding storable
 storable-between signed n lo hi z a b h =
-    let l = from-to (smallest signed n) (largest signed n) lo a .0 in
-    let r = from-to (smallest signed n) (largest signed n) hi b .1 in
-    let m = from-to lo hi z h in
+    let l = ends (smallest signed n) (largest signed n) lo a .0 in
+    let r = ends (smallest signed n) (largest signed n) hi b .1 in
+    let m = ends lo hi z h in
     in-range (smallest signed n) (largest signed n) z (le-trans (smallest signed n) lo z l (m .0)) (le-trans z hi (largest signed n) (m .1) r)
 
 -- the sizes of ints, eventids and strings

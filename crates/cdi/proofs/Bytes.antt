@@ -14,7 +14,7 @@ use lib.Pow.{pow-add, pow-pos}
 use Rattle.cdi.specs.Rules.{smallest, largest, storable}
 use Rattle.cdi.specs.Values.{bytesOf, valueFrom, valueOf, complement, uncomplement}
 use Rattle.cdi.proofs.Signs.{up, down, le-up, up-negative, down-negative}
-use Rattle.cdi.proofs.Tests.{from-to}
+use Rattle.cdi.proofs.Tests.{ends}
 
 value-append : (a : ℕ) (s t : List ℕ) → valueFrom a (s ++ t) ≡ valueFrom (valueFrom a s) t
 unfolding valueFrom
@@ -53,25 +53,25 @@ halves n h =
 half-above : (n m : ℕ) → storable true n (pos m) ≡ true → m < 2 ^ (8 * n - 1)
 unfolding storable smallest largest
 half-above n m h =
-    let l : m ≤ 2 ^ (8 * n - 1) - 1 = leb-true m (2 ^ (8 * n - 1) - 1) (from-to (negℤ (pos (2 ^ (8 * n - 1)))) (pos (2 ^ (8 * n - 1) - 1)) (pos m) h .1) in
+    let l : m ≤ 2 ^ (8 * n - 1) - 1 = leb-true m (2 ^ (8 * n - 1) - 1) (ends (negℤ (pos (2 ^ (8 * n - 1)))) (pos (2 ^ (8 * n - 1) - 1)) (pos m) h .1) in
     omega (arith, pow-pos (8 * n - 1))
 
 half-below : (n m : ℕ) → storable true n (negsuc m) ≡ true → suc m ≤ 2 ^ (8 * n - 1)
 unfolding storable smallest largest up down
 half-below n m h =
     let low = negℤ (pos (2 ^ (8 * n - 1))) in
-    let l = le-up low (negsuc m) (from-to low (pos (2 ^ (8 * n - 1) - 1)) (negsuc m) h .0) in
+    let l = le-up low (negsuc m) (ends low (pos (2 ^ (8 * n - 1) - 1)) (negsuc m) h .0) in
     omega (arith, l, up-negative (2 ^ (8 * n - 1)), down-negative (2 ^ (8 * n - 1)))
 
 all-above : (n m : ℕ) → storable false n (pos m) ≡ true → m < 256 ^ n
 unfolding storable smallest largest
 all-above n m h =
-    let l : m ≤ 2 ^ (8 * n) - 1 = leb-true m (2 ^ (8 * n) - 1) (from-to (pos 0) (pos (2 ^ (8 * n) - 1)) (pos m) h .1) in
+    let l : m ≤ 2 ^ (8 * n) - 1 = leb-true m (2 ^ (8 * n) - 1) (ends (pos 0) (pos (2 ^ (8 * n) - 1)) (pos m) h .1) in
     omega (arith, eight-bits n, pow-pos (8 * n))
 
 none-below : (n m : ℕ) → storable false n (negsuc m) ≡ true → ⊥
 unfolding storable smallest largest
-none-below n m h = false≢true (from-to (pos 0) (pos (2 ^ (8 * n) - 1)) (negsuc m) h .0)
+none-below n m h = false≢true (ends (pos 0) (pos (2 ^ (8 * n) - 1)) (negsuc m) h .0)
 
 -- what stands for a number that can be stored fits into the bytes
 pub complement-fits : (signed : Bool) (n : ℕ) (z : ℤ) → 1 ≤ n → storable signed n z ≡ true → complement n z < 256 ^ n

@@ -14,7 +14,7 @@ use lib.Signed.{leZ}
 use Rattle.cdi.specs.Words.{all}
 use Rattle.cdi.specs.Numbers.{within}
 use Rattle.cdi.specs.Walk.{Step, add, stand, copies, moves, addresses, isAddress, keeps, change, count, Variable, variables}
-use Rattle.cdi.proofs.Tests.{both, from-to}
+use Rattle.cdi.proofs.Tests.{parts, ends}
 use Rattle.cdi.proofs.Signs.{up, down, sum, up-times, down-times, le-up, up-le, up-same, nought}
 
 -- ── one stretch after another ──
@@ -36,7 +36,7 @@ variables-append a [] t = rw +ℤ-idr
 variables-append a (add o ∷ s) t = variables-append (a +ℤ o) s t ∙ rw +ℤ-assoc
 variables-append a (stand k i n ∷ s) t = ap (λ l. record { kind = k; number = i; address = a; size = n } ∷ l) (variables-append (a +ℤ pos n) s t ∙ rw +ℤ-assoc)
 
--- the limits are kept in both
+-- the limits are kept in parts
 pub keeps-append : (a : ℤ) (s t : List Step) → keeps a (s ++ t) ≡ (keeps a s && keeps (a +ℤ change s) t)
 unfolding keeps addresses all change
 keeps-append a [] t = rw +ℤ-idr
@@ -121,7 +121,7 @@ nth-of-copies (suc r) s a n d h = by (decLt n (count s)) (nth-of-copies r s (a +
 address-up : (a : ℤ) → isAddress a ≡ true → (down a ≤ up a) × (up a ≤ 2 ^ 32 + down a)
 unfolding isAddress up down
 address-up a h =
-    let p = from-to (pos 0) (pos (2 ^ 32)) a h in
+    let p = ends (pos 0) (pos (2 ^ 32)) a h in
     (omega (arith, le-up (pos 0) a (p .0)), omega (arith, le-up a (pos (2 ^ 32)) (p .1)))
 
 up-address : (a : ℤ) → down a ≤ up a → up a ≤ 2 ^ 32 + down a → isAddress a ≡ true
@@ -164,8 +164,8 @@ keeps-between : (s : List Step) (a m d : ℤ) (q r : ℕ) → q ≤ r → keeps 
 unfolding keeps addresses all
 keeps-between [] a m d q r h f l = refl
 keeps-between (x ∷ s) a m d q r h f l =
-    let f′ = both _ _ (rw (further a m 0 d (moves x)) at f) in
-    let l′ = both _ _ (rw (further a m r d (moves x)) at l) in
+    let f′ = parts _ _ (rw (further a m 0 d (moves x)) at f) in
+    let l′ = parts _ _ (rw (further a m r d (moves x)) at l) in
     rw (further a m q d (moves x), address-between a m (d +ℤ moves x) q r h (f′ .0) (l′ .0)) (keeps-between s a m (d +ℤ moves x) q r h (f′ .1) (l′ .1))
 
 -- limits that every copy keeps are kept by all copies together
@@ -185,7 +185,7 @@ first-and-last r s a f l =
 
 parted : (r : ℕ) (s : List Step) (a : ℤ) → keeps a (copies (suc r) s) ≡ true → (keeps a s ≡ true) × (keeps (a +ℤ change s) (copies r s) ≡ true)
 unfolding copies
-parted r s a h = both (keeps a s) (keeps (a +ℤ change s) (copies r s)) (sym (keeps-append a s (copies r s)) ∙ h)
+parted r s a h = parts (keeps a s) (keeps (a +ℤ change s) (copies r s)) (sym (keeps-append a s (copies r s)) ∙ h)
 
 -- and each copy keeps those that all together keep
 pub each-copy : (r : ℕ) (s : List Step) (a : ℤ) → keeps a (copies r s) ≡ true → (q : ℕ) → q < r → keeps (copyStart a (change s) q) s ≡ true
