@@ -63,7 +63,7 @@ passed w v s e =
       bounds = not-false _ (c .0);
       text = not-false _ (d .0);
       mapped = not-false _ (f .0);
-      inside = not-false _ (g .0)
+      inside = not-false _ (g .0);
     }
 
 -- ── the window ──

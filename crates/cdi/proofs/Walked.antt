@@ -64,8 +64,15 @@ change-copies zero s = sym (nought _ (omega (arith, up-times 0 (change s), zero-
 change-copies (suc r) s =
     change-append s (copies r s)
     ∙ rw (change-copies r s) (up-same _ _ (omega (
-      arith, sum (change s) (pos r *ℤ change s), up-times r (change s), down-times r (change s), up-times (suc r) (change s), down-times (suc r) (change s),
-      suc-mul r (up (change s)), suc-mul r (down (change s)))))
+      arith,
+      sum (change s) (pos r *ℤ change s),
+      up-times r (change s),
+      down-times r (change s),
+      up-times (suc r) (change s),
+      down-times (suc r) (change s),
+      suc-mul r (up (change s)),
+      suc-mul r (down (change s)),
+    )))
 
 -- where copy q of a stretch starts, counted from 0
 unfoldable pub copyStart : ℤ → ℤ → ℕ → ℤ
@@ -80,8 +87,17 @@ copy-next : (a m : ℤ) (q : ℕ) → copyStart (a +ℤ m) m q ≡ copyStart a m
 unfolding copyStart
 copy-next a m q =
     up-same _ _ (omega (
-      arith, sum (a +ℤ m) (pos q *ℤ m), sum a m, sum a (pos (suc q) *ℤ m), up-times q m, down-times q m, up-times (suc q) m, down-times (suc q) m,
-      suc-mul q (up m), suc-mul q (down m)))
+      arith,
+      sum (a +ℤ m) (pos q *ℤ m),
+      sum a m,
+      sum a (pos (suc q) *ℤ m),
+      up-times q m,
+      down-times q m,
+      up-times (suc q) m,
+      down-times (suc q) m,
+      suc-mul q (up m),
+      suc-mul q (down m),
+    ))
 
 some-variables : (r k n : ℕ) → n < r * k → 0 < k
 some-variables r zero n h = absurd (omega (arith, rw mul-zero at h))
@@ -181,7 +197,7 @@ pub first-and-last : (r : ℕ) (s : List Step) (a : ℤ) → keeps a s ≡ true 
 unfolding placed
 first-and-last r s a f l =
     every-kept (suc r) s a (λ q h.
-      rw +ℤ-idr at (keeps-between s a (change s) (pos 0) q r (omega arith) (rw (+ℤ-idr, copy-first) f) (rw +ℤ-idr l)))
+    rw +ℤ-idr at (keeps-between s a (change s) (pos 0) q r (omega arith) (rw (+ℤ-idr, copy-first) f) (rw +ℤ-idr l)))
 
 parted : (r : ℕ) (s : List Step) (a : ℤ) → keeps a (copies (suc r) s) ≡ true → (keeps a s ≡ true) × (keeps (a +ℤ change s) (copies r s) ≡ true)
 unfolding copies

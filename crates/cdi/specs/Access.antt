@@ -188,7 +188,7 @@ ownBytes w v = take (v .size) (drop (startIn w v) (w .bytes))
 unfoldable pub textIn : List ℕ → Answer Value
 textIn bytes =
     given (zeroFrom 0 bytes) (refused (fault 28 0)) (λ e.
-      cond (isUtf8 (take e bytes)) (accepted (string (take e bytes))) (refused (fault 28 0)))
+    cond (isUtf8 (take e bytes)) (accepted (string (take e bytes))) (refused (fault 28 0)))
 
 unfoldable pub valueIn : Setting → List ℕ → Answer Value
 valueIn s bytes =

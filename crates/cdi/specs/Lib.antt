@@ -15,3 +15,4 @@ pub mod Planning
 pub mod Values
 pub mod Access
 pub mod Worked
+pub mod Slips

@@ -51,7 +51,7 @@ segmentOf p s kids = record {
   place = p;
   space = natural (numberOr (pos 0) (ascii "space") s);
   origin = natural (numberOr (pos 0) (ascii "origin") s);
-  items = itemsOf kids
+  items = itemsOf kids;
 }
 
 unfoldable pub segmentsIn : Nodes → List Segment

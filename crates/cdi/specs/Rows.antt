@@ -80,26 +80,23 @@ floatSizes = "2" ∷ "4" ∷ "8" ∷ []
 unfoldable pub numericChildren : List ChildRule
 numericChildren = maybe "name" ∷ maybe "description" ∷ maybe "min" ∷ maybe "max" ∷ maybe "default" ∷ maybe "map" ∷ []
 
+-- "`xmlns:xsi` is `http://www.w3.org/2001/XMLSchema-instance`; `xsi:noNamespaceSchemaLocation` is `http://openlcb.org/schema/cdi/1/3/cdi.xsd`,
+-- in either order."
+unfoldable pub rootAttributes : List AttributeRule
+rootAttributes =
+    required "xmlns:xsi" (fixed "http://www.w3.org/2001/XMLSchema-instance")
+    ∷ required "xsi:noNamespaceSchemaLocation" (fixed "http://openlcb.org/schema/cdi/1/3/cdi.xsd")
+    ∷ []
+
 unfoldable pub rows : List Row
 rows =
-    row "cdi"
-      (required "xmlns:xsi" (fixed "http://www.w3.org/2001/XMLSchema-instance")
-      ∷ required "xsi:noNamespaceSchemaLocation" (fixed "http://openlcb.org/schema/cdi/1/3/cdi.xsd")
-      ∷ [])
-      (maybe "identification" ∷ maybe "acdi" ∷ each "segment" ∷ [])
-    ∷ row "identification" []
-      (maybe "manufacturer" ∷ maybe "model" ∷ maybe "hardwareVersion" ∷ maybe "softwareVersion" ∷ maybe "map" ∷ [])
+    row "cdi" rootAttributes (maybe "identification" ∷ maybe "acdi" ∷ each "segment" ∷ [])
+    ∷ row "identification" [] (maybe "manufacturer" ∷ maybe "model" ∷ maybe "hardwareVersion" ∷ maybe "softwareVersion" ∷ maybe "map" ∷ [])
     ∷ row "acdi" (optional "fixed" byteRange ∷ optional "var" byteRange ∷ []) []
-    ∷ row "segment"
-      (required "space" byteRange ∷ optional "origin" (range (pos 0) (pos 2147483647)) ∷ [])
-      (maybe "name" ∷ maybe "description" ∷ anyData ∷ [])
-    ∷ row "group"
-      (optional "replication" (range (pos 1) (pos 2147483647)) ∷ offset ∷ [])
-      (maybe "name" ∷ maybe "description" ∷ maybe "repname" ∷ anyData ∷ [])
+    ∷ row "segment" (required "space" byteRange ∷ optional "origin" (range (pos 0) (pos 2147483647)) ∷ []) (maybe "name" ∷ maybe "description" ∷ anyData ∷ [])
+    ∷ row "group" (optional "replication" (range (pos 1) (pos 2147483647)) ∷ offset ∷ []) (maybe "name" ∷ maybe "description" ∷ maybe "repname" ∷ anyData ∷ [])
     ∷ row "int" (optional "size" (size intSizes) ∷ offset ∷ []) numericChildren
-    ∷ row "string"
-      (required "size" (range (pos 1) (pos 65535)) ∷ offset ∷ [])
-      (maybe "name" ∷ maybe "description" ∷ maybe "map" ∷ [])
+    ∷ row "string" (required "size" (range (pos 1) (pos 65535)) ∷ offset ∷ []) (maybe "name" ∷ maybe "description" ∷ maybe "map" ∷ [])
     ∷ row "eventid" (offset ∷ []) (maybe "name" ∷ maybe "description" ∷ maybe "map" ∷ [])
     ∷ row "float" (required "size" (size floatSizes) ∷ offset ∷ optional "formatting" formatting ∷ []) numericChildren
     ∷ row "map" [] (maybe "name" ∷ maybe "description" ∷ each "relation" ∷ [])
@@ -123,5 +120,5 @@ unfoldable pub documentRow : Row
 documentRow = row "" [] (one "cdi" ∷ [])
 
 unfoldable pub rows-page : Unit {0}
-unfolding required optional maybe each one dataNames anyData row byteRange offset intSizes floatSizes numericChildren rows textRow rowAmong rowOf documentRow
+unfolding required optional maybe each one dataNames anyData row byteRange offset intSizes floatSizes numericChildren rootAttributes rows textRow rowAmong rowOf documentRow
 rows-page = tt

@@ -36,8 +36,8 @@ valueOf n (a ∷ s) = let r = valueOf n s in cond (same n (a .name)) (some (a .v
 unfoldable pub isFormatting : List ℕ → Bool
 isFormatting v =
     given (strip (ascii "%") v) false (λ s.
-      same (after digit s) (ascii "f")
-      || given (strip (ascii ".") (after digit s)) false (λ t. same (after digit t) (ascii "f")))
+    same (after digit s) (ascii "f")
+    || given (strip (ascii ".") (after digit s)) false (λ t. same (after digit t) (ascii "f")))
 
 unfoldable pub rangeFaults : ℕ → (ℤ → Bool) → Option ℤ → List Fault
 rangeFaults p inRange none = noNumber p ∷ []
@@ -84,8 +84,8 @@ entryOf r n = entryFrom 1 (r .children) n
 unfoldable pub childFaults : Row → Before → ℕ → List ℕ → List Fault
 childFaults r b p n =
     given (entryOf r n) (offTable p ∷ []) (λ e.
-      unless (not (ltb (e .0) (b .last))) (offTable p)
-      ++ unless (e .1 || not (any (eqb (e .0)) (b .seen))) (offTable p))
+    unless (not (ltb (e .0) (b .last))) (offTable p)
+    ++ unless (e .1 || not (any (eqb (e .0)) (b .seen))) (offTable p))
 
 -- the children before the next one; an unknown child takes no part
 unfoldable pub behind : Row → Before → List ℕ → Before
@@ -181,7 +181,7 @@ boundsOf n kids =
     record {
       signed = isSigned low;
       min = given low (pos 0) (λ b. b .value);
-      max = given high (largest (isSigned low) n) (λ b. b .value)
+      max = given high (largest (isSigned low) n) (λ b. b .value);
     }
 
 -- "Both must be storable and then min at most max": at the bound's own `<`; "for min above max the int's `<`"

@@ -1,0 +1,53 @@
+-- "Slips we have seen", and a few more that a definition could make: cases that come out otherwise where one is made.
+-- (The first two and the last of document 01 show in the worked set: variables 3 and 4 of T, and "AB" in size 4.)
+use mathlib.Core.Path.{_≡_, refl}
+use mathlib.Core.List.{List, [], _∷_, _++_, map}
+use mathlib.Core.Bool.{true, false}
+use mathlib.Core.Option.{Option, none, some}
+use Prim.Native.Nat.{ℕ}
+use lib.IntN.{ℤ, pos}
+use lib.ListN.{replicate}
+use Rattle.cdi.specs.Faults.{fault, least}
+use Rattle.cdi.specs.Text.{content}
+use Rattle.cdi.specs.Values.{signed}
+use Rattle.cdi.specs.Access.{integer}
+use Rattle.cdi.specs.Worked.{all-pages, opened, single, Ask, plans, writes, Told, refusal, values, toldOf, lent, window, answer}
+
+unfoldable pub cases : List (Ask × Told)
+cases =
+    -- an int is not signed because min is present: 200 can be stored
+    (writes "<int><min>0</min><max>200</max></int>" 1 (integer (signed false 200)), values (map pos (200 ∷ [])))
+    -- minus zero is not below zero
+    ∷ (writes "<int><min>-0</min><max>200</max></int>" 1 (integer (signed true 0)), values (map pos (0 ∷ [])))
+    -- 04 is a number and no size
+    ∷ (plans (single "<int size=\"04\"/>") 16, refusal 10 174)
+    -- the smaller place speaks, though a smaller number stands behind it
+    ∷ (plans (single "<int offset=\"4294967296\"/><unknown/>") 16, refusal 10 174)
+    -- no `--` inside a comment, at its end neither
+    ∷ (plans (single "<!-- a --->") 16, refusal 4 174)
+    -- a reference to a carriage return is one to an XML character, and as text between children it is stray
+    ∷ (plans (single "&#13;") 16, refusal 8 174)
+    -- a group without members adds its offset once, whatever its replication
+    ∷ (
+      plans (single "<group replication=\"2\" offset=\"5\"/>") 16,
+      values (map pos (1 ∷ 155 ∷ 0 ∷ 1 ∷ 1 ∷ 2 ∷ 0 ∷ 5 ∷ 2 ∷ 174 ∷ 5 ∷ 0 ∷ 2 ∷ 2 ∷ 0 ∷ 5 ∷ [])),
+    )
+    ∷ []
+
+pub come-out : map (λ c. answer (c .0)) cases ≡ map (λ c. c .1) cases
+unfolding all-pages opened single toldOf lent window answer cases
+come-out = refl
+
+-- of several faults the one at the smallest place, and there the one with the smallest number
+pub place-first : least (fault 8 30 ∷ fault 10 20 ∷ fault 9 20 ∷ []) ≡ some (fault 9 20)
+unfolding all-pages
+place-first = refl
+
+-- a zero at place 65,535 is in time, and one at 65,536 is not
+pub in-time : content (replicate 65535 32 ++ 0 ∷ []) ≡ some (replicate 65535 32)
+unfolding all-pages
+in-time = refl
+
+pub too-late : content (replicate 65536 32 ++ 0 ∷ []) ≡ none
+unfolding all-pages
+too-late = refl
