@@ -2,27 +2,25 @@
 -- gives the value."
 use mathlib.Core.Path.{_≡_, refl, sym, ap, _∙_}
 use mathlib.Core.List.{List, [], _∷_, _++_}
-use mathlib.Core.Bool.{Bool, true, false, cond, not, _&&_, _||_, false≢true, or-false}
-use mathlib.Core.Option.{Option, none, some}
-use Prim.Native.Nat.{ℕ, zero, suc, _+_, _*_, _-_, _^_, _<_, _≤_}
+use mathlib.Core.Bool.{Bool, true, false, not, _&&_, _||_, false≢true, or-false}
+use Prim.Native.Nat.{ℕ, zero, suc, _+_, _-_, _^_, _<_, _≤_}
 use native.Mathlib.Nat.{zero-add}
 use native.Mathlib.Omega.{arith}
-use borrow.Author.Tests.{eqb-true, leb-true, ltb-true, le-leb, eq-eqb, not-true, not-false, eqb-false}
+use borrow.Author.Tests.{eqb-true, leb-true, ltb-true, not-true, not-false, eqb-false}
 use lib.Dec.{eqb, leb, ltb}
-use lib.IntN.{ℤ, pos, negsuc}
+use lib.IntN.{ℤ, pos}
 use lib.ListN.{length, take, drop, getD, replicate, length-append, length-replicate, length-drop, List·getD-append}
 use lib.Seq.{take-at, drop-at, length-take-le, getD-take, getD-drop, getD-append-add}
-use lib.Signed.{leZ}
-use Rattle.cdi.specs.Words.{any, given}
+use Rattle.cdi.specs.Words.{any}
 use Rattle.cdi.specs.Faults.{Fault, fault, Answer, accepted, refused, _andThen_, isAccepted}
 use Rattle.cdi.specs.Numbers.{within}
-use Rattle.cdi.specs.Text.{zeroFrom, isUtf8}
-use Rattle.cdi.specs.Rules.{Bounds, boundsOf, storable, smallest, largest}
+use Rattle.cdi.specs.Text.{isUtf8}
+use Rattle.cdi.specs.Rules.{boundsOf, storable, smallest, largest}
 use Rattle.cdi.specs.Walk.{Found}
 use Rattle.cdi.specs.Plans.{sizeFits, oneOf}
 use Rattle.cdi.specs.Table.{sameNumber}
-use Rattle.cdi.specs.Values.{bytesOf, valueOf, complement, uncomplement, padded}
-use Rattle.cdi.specs.Access.{Window, Value, integer, event, string, Setting, settingOf, kindOfValue, inBounds, isGoodText, isAdmitted, isInside, isFloat, isMappedEvent, firstCause, writeCauses, readCauses, stored, overwritten, startIn, written, writeInto, windowAfter, Reading, ownBytes, textIn, valueIn, readFrom, read}
+use Rattle.cdi.specs.Values.{complement, padded}
+use Rattle.cdi.specs.Access.{Window, Value, integer, event, string, Setting, settingOf, kindOfValue, inBounds, isGoodText, isAdmitted, isInside, isFloat, isMappedEvent, firstCause, writeCauses, readCauses, stored, overwritten, startIn, written, writeInto, windowAfter, ownBytes, textIn, valueIn, readFrom, read}
 use Rattle.cdi.proofs.Bytes.{length-bytes, value-of-bytes, complement-fits, uncomplement-complement}
 use Rattle.cdi.proofs.Settings.{SettingFits}
 use Rattle.cdi.proofs.Signs.{le-trans}

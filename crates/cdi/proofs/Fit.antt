@@ -4,7 +4,7 @@ use mathlib.Core.List.{List, [], _∷_, _++_}
 use mathlib.Core.Bool.{true}
 use mathlib.Core.Option.{none}
 use Prim.Native.Nat.{ℕ, _+_, _≤_}
-use lib.IntN.{ℤ, pos}
+use lib.IntN.{pos}
 use lib.Dec.{leb}
 use Rattle.cdi.specs.Walk.{Items, end, variable, group, Segment, total}
 use Rattle.cdi.specs.Table.{recordsOf}

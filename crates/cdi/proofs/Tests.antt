@@ -5,11 +5,17 @@ use lib.IntN.{ℤ}
 use lib.Signed.{leZ}
 use Rattle.cdi.specs.Numbers.{within}
 
--- both parts pass where the two joined do
+-- each part passes where the two joined do
+pub both-left : (x y : Bool) → (x && y) ≡ true → x ≡ true
+both-left true y e = refl
+both-left false y e = e
+
+pub both-right : (x y : Bool) → (x && y) ≡ true → y ≡ true
+both-right true y e = e
+both-right false y e = absurd (false≢true e)
+
 pub parts : (x y : Bool) → (x && y) ≡ true → (x ≡ true) × (y ≡ true)
-parts true true e = (refl, refl)
-parts true false e = absurd (false≢true e)
-parts false y e = absurd (false≢true e)
+parts x y e = (both-left x y e, both-right x y e)
 
 pub both : {x y : Bool} → x ≡ true → y ≡ true → (x && y) ≡ true
 both p q = rw (p, q)

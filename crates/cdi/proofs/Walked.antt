@@ -1,7 +1,7 @@
 -- The walk of joined and of repeated stretches.
 use mathlib.Core.Path.{_≡_, refl, sym, ap, _∙_}
 use mathlib.Core.List.{List, [], _∷_, _++_}
-use mathlib.Core.Bool.{Bool, true, false, _&&_, false≢true, and-assoc}
+use mathlib.Core.Bool.{true, _&&_, and-assoc}
 use Prim.Native.Nat.{ℕ, zero, suc, _+_, _*_, _/_, _%_, _-_, _^_, _<_, _≤_}
 use native.Mathlib.Nat.{div-eq-of-lt, mod-eq-of-lt, add-div-left, add-mod-left, zero-mul, suc-mul, mul-zero, mul-le-mul-right}
 use native.Mathlib.Numerals.{add-one}
@@ -10,7 +10,6 @@ use native.Mathlib.Decide.{decLt}
 use lib.IntN.{ℤ, pos, negsuc, _+ℤ_, _*ℤ_, +ℤ-assoc, +ℤ-idr, +ℤ-idl}
 use lib.ListN.{length, getD, List·getD-append}
 use lib.Seq.{getD-append-add}
-use lib.Signed.{leZ}
 use Rattle.cdi.specs.Words.{all}
 use Rattle.cdi.specs.Numbers.{within}
 use Rattle.cdi.specs.Walk.{Step, add, stand, copies, moves, addresses, isAddress, keeps, change, count, Variable, variables}

@@ -1,21 +1,17 @@
 -- "Bytes after the first zero change no answer."
-use mathlib.Core.Path.{_≡_, refl, sym, ap, _∙_}
+use mathlib.Core.Path.{_≡_, ap, _∙_}
 use mathlib.Core.List.{List, [], _∷_, _++_}
-use mathlib.Core.Bool.{Bool, true, false, cond}
-use mathlib.Core.Option.{Option, none, some}
-use Prim.Native.Nat.{ℕ, zero, suc, _+_, _-_, _≤_, _<_}
+use mathlib.Core.Option.{some}
+use Prim.Native.Nat.{ℕ, suc, _+_, _-_, _≤_, _<_}
 use native.Mathlib.Nat.{zero-add}
 use native.Mathlib.Omega.{arith}
 use borrow.Author.Tests.{ne-eqb}
-use lib.Dec.{eqb}
 use lib.IntN.{ℤ}
 use lib.ListN.{length, take}
 use lib.Seq.{take-append-seam, take-append-add}
-use Rattle.cdi.specs.Words.{given}
-use Rattle.cdi.specs.Faults.{Answer}
 use Rattle.cdi.specs.Text.{zeroFrom, endOf, content}
-use Rattle.cdi.specs.Planning.{Description, Counts, ending, described, planned, tableAfter}
-use Rattle.cdi.specs.Access.{Window, Value, Reading, settingOf, written, windowAfter, read}
+use Rattle.cdi.specs.Planning.{ending, described, planned, tableAfter}
+use Rattle.cdi.specs.Access.{Window, Value, settingOf, written, windowAfter, read}
 
 -- no zero byte stands in c
 unfoldable pub NoZero : List ℕ → Type 0

@@ -5,14 +5,14 @@ use mathlib.Core.Option.{Option, none, some}
 use Prim.Native.Nat.{ℕ, _+_, _-_}
 use lib.ListN.{length, take, drop}
 use lib.Dec.{eqb, leb, ltb}
-use lib.IntN.{ℤ, pos}
-use Rattle.cdi.specs.Words.{ascii, _>>=_, given, isSome, any, same}
-use Rattle.cdi.specs.Faults.{Fault, fault, Answer, accepted, refused, _andThen_, isAccepted}
+use lib.IntN.{ℤ}
+use Rattle.cdi.specs.Words.{ascii, given, isSome, any, same}
+use Rattle.cdi.specs.Faults.{fault, Answer, accepted, refused, _andThen_, isAccepted}
 use Rattle.cdi.specs.Text.{zeroFrom, isUtf8}
-use Rattle.cdi.specs.Pieces.{Piece, start, finish, remark, refer, text, malformed, unsupported}
+use Rattle.cdi.specs.Pieces.{start, finish, remark, refer, text, malformed, unsupported}
 use Rattle.cdi.specs.Tree.{Nodes, end, element, other}
 use Rattle.cdi.specs.Numbers.{within}
-use Rattle.cdi.specs.Rules.{ownNumber, Bounds, boundsOf}
+use Rattle.cdi.specs.Rules.{ownNumber, boundsOf}
 use Rattle.cdi.specs.Walk.{Found}
 use Rattle.cdi.specs.Table.{sameNumber, sameTable, tableOf}
 use Rattle.cdi.specs.Plans.{placeOf, variableOf}

@@ -4,8 +4,8 @@ use mathlib.Core.Bool.{Bool, true, false, cond, not, _&&_, _||_}
 use mathlib.Core.Option.{Option, none, some}
 use Prim.Native.Nat.{ℕ, zero, suc, _+_, _*_, _-_}
 use lib.ListN.{length, drop, getD}
-use lib.Dec.{eqb, leb}
-use Rattle.cdi.specs.Words.{ascii, _>>=_, _orElse_, isSome, isEmpty, any, while, after, same, begins, strip, beyond, between}
+use lib.Dec.{eqb}
+use Rattle.cdi.specs.Words.{ascii, _>>=_, given, _orElse_, isSome, isEmpty, any, while, after, same, begins, strip, beyond, between}
 use Rattle.cdi.specs.Text.{isChar}
 
 pub record Attribute : Type 0 where
@@ -73,10 +73,8 @@ unfoldable pub attributes : ℕ → List ℕ → List Attribute
 attributes k [] = []
 attributes (suc k) (x ∷ s) = attributes k s
 attributes zero (x ∷ s) =
-    elim (blank x) [
-      | true ↦ elim (attributeAt (after blank s)) [ none ↦ [] | some a ↦ a .0 ∷ attributes (length s - length (a .1)) s ]
-      | false ↦ []
-    ]
+    let r = given (attributeAt (after blank (x ∷ s))) [] (λ a. a .0 ∷ attributes (length s - length (a .1)) s) in
+    cond (blank x) r []
 
 -- the end of that tag: whether it is `/>`, and what follows it
 unfoldable pub tagEnd : ℕ → List ℕ → Option (Bool × List ℕ)
@@ -84,16 +82,10 @@ tagEnd k [] = none
 tagEnd (suc k) (x ∷ s) = tagEnd k s
 tagEnd zero (x ∷ s) =
     let t = after blank (x ∷ s) in
-    elim (begins (ascii ">") t) [
-      | true ↦ some (false, drop 1 t)
-      | false ↦ elim (begins (ascii "/>") t) [
-        | true ↦ some (true, drop 2 t)
-        | false ↦ elim (blank x) [
-          | true ↦ elim (attributeAt t) [ none ↦ none | some a ↦ tagEnd (length s - length (a .1)) s ]
-          | false ↦ none
-        ]
-      ]
-    ]
+    let more = attributeAt t >>= λ a. tagEnd (length s - length (a .1)) s in
+    cond (begins (ascii ">") t) (some (false, drop 1 t))
+    (cond (begins (ascii "/>") t) (some (true, drop 2 t))
+    (cond (blank x) more none))
 
 unfoldable pub bears : List ℕ → Attribute → Bool
 bears n a = same n (a .name)

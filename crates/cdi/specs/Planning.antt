@@ -1,10 +1,10 @@
 -- Planning: the stages in their order, and what stands in the lent table afterwards.
 use mathlib.Core.List.{List, [], _∷_, _++_}
-use mathlib.Core.Bool.{Bool, true, false, cond, not}
+use mathlib.Core.Bool.{cond}
 use mathlib.Core.Option.{Option, none, some}
-use Prim.Native.Nat.{ℕ, _+_, _*_, min}
+use Prim.Native.Nat.{ℕ, _*_, min}
 use lib.ListN.{length, drop}
-use lib.Dec.{eqb, leb}
+use lib.Dec.{leb}
 use lib.IntN.{ℤ, pos}
 use Rattle.cdi.specs.Words.{ascii, _>>=_, given, same, among, begins}
 use Rattle.cdi.specs.Faults.{Fault, fault, least, Answer, accepted, refused, _andThen_, stage}

@@ -3,9 +3,8 @@
 use mathlib.Core.Path.{_≡_, refl}
 use mathlib.Core.List.{List, [], _∷_, _++_, map}
 use mathlib.Core.Bool.{true, false}
-use mathlib.Core.Option.{Option, none, some}
-use Prim.Native.Nat.{ℕ}
-use lib.IntN.{ℤ, pos}
+use mathlib.Core.Option.{none, some}
+use lib.IntN.{pos}
 use lib.ListN.{replicate}
 use Rattle.cdi.specs.Faults.{fault, least}
 use Rattle.cdi.specs.Text.{content}

@@ -5,7 +5,7 @@ use mathlib.Core.Option.{Option, none, some}
 use Prim.Native.Nat.{ℕ, zero, suc, _+_, _*_, _-_}
 use lib.ListN.{take, getD}
 use lib.Dec.{eqb, leb, ltb}
-use Rattle.cdi.specs.Words.{ascii, _>>=_, begins, between}
+use Rattle.cdi.specs.Words.{ascii, _>>=_, given, begins, between}
 
 -- "the first zero byte": its place in s, which stands at `at`
 unfoldable pub zeroFrom : ℕ → List ℕ → Option ℕ
@@ -57,10 +57,9 @@ unfoldable pub badFrom : (ℕ → Bool) → ℕ → ℕ → List ℕ → Option 
 badFrom p at k [] = none
 badFrom p at (suc k) (b ∷ s) = badFrom p (at + 1) k s
 badFrom p at zero (b ∷ s) =
-    elim (characterAt (b ∷ s)) [
-      | none ↦ some at
-      | some c ↦ let r = badFrom p (at + 1) (c .width - 1) s in cond (p (c .code)) r (some at)
-    ]
+    given (characterAt (b ∷ s)) (some at) (λ c.
+    let r = badFrom p (at + 1) (c .width - 1) s in
+    cond (p (c .code)) r (some at))
 
 -- W3C XML 1.0, production 2: Char
 unfoldable pub isChar : ℕ → Bool
@@ -83,7 +82,7 @@ unfoldable pub anyCharacter : ℕ → Bool
 anyCharacter c = true
 
 unfoldable pub isUtf8 : List ℕ → Bool
-isUtf8 s = elim (badFrom anyCharacter 0 0 s) [ none ↦ true | some p ↦ false ]
+isUtf8 s = given (badFrom anyCharacter 0 0 s) true (λ p. false)
 
 -- "Content must begin with the 22 bytes `<?xml version="1.0"?>` and newline"
 unfoldable pub firstLine : List ℕ

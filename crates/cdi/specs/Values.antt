@@ -1,6 +1,6 @@
 -- What is stored of a value, and what stored bytes say.
 use mathlib.Core.List.{List, [], _∷_, _++_}
-use mathlib.Core.Bool.{Bool, true, false, cond, _&&_}
+use mathlib.Core.Bool.{Bool, cond, _&&_}
 use Prim.Native.Nat.{ℕ, zero, suc, _+_, _*_, _-_, _^_, _/_, _%_}
 use lib.ListN.{length, replicate}
 use lib.Dec.{leb, ltb}

@@ -1,6 +1,6 @@
 -- Where a variable lives: the full walk, with every group copied out.
 use mathlib.Core.List.{List, [], _∷_, _++_, map}
-use mathlib.Core.Bool.{Bool, true, false, cond, _&&_}
+use mathlib.Core.Bool.{Bool}
 use Prim.Native.Nat.{ℕ, zero, suc, _+_, _^_}
 use lib.IntN.{ℤ, pos, _+ℤ_}
 use Rattle.cdi.specs.Words.{all}

@@ -1,13 +1,13 @@
 -- "Worked set for the definitions": P1 to P12, a single list of cases under a single statement.
 use mathlib.Core.Path.{_≡_, refl}
 use mathlib.Core.List.{List, [], _∷_, _++_, map}
-use mathlib.Core.Bool.{Bool, true, false, cond}
+use mathlib.Core.Bool.{true, false}
 use Prim.Native.Nat.{ℕ, _-_, _^_}
 use Prim.Native.String.{String}
 use lib.IntN.{ℤ, pos, negsuc}
 use lib.ListN.{replicate, take}
 use Rattle.cdi.specs.Words.{ascii, words-page}
-use Rattle.cdi.specs.Faults.{Fault, Answer, accepted, refused, faults-page}
+use Rattle.cdi.specs.Faults.{Answer, accepted, refused, faults-page}
 use Rattle.cdi.specs.Text.{firstLine, text-page}
 use Rattle.cdi.specs.Pieces.{pieces-page}
 use Rattle.cdi.specs.Markup.{markup-page}
@@ -18,7 +18,7 @@ use Rattle.cdi.specs.Rules.{rules-page}
 use Rattle.cdi.specs.Walk.{Found, walk-page}
 use Rattle.cdi.specs.Table.{table-page}
 use Rattle.cdi.specs.Plans.{locating, plans-page}
-use Rattle.cdi.specs.Planning.{Counts, planned, tableAfter, planning-page}
+use Rattle.cdi.specs.Planning.{planned, tableAfter, planning-page}
 use Rattle.cdi.specs.Values.{signed, values-page}
 use Rattle.cdi.specs.Access.{Window, Value, integer, string, written, windowAfter, access-page}
 
