@@ -1,0 +1,69 @@
+//! The shares of answers in a stream.
+
+use std::collections::BTreeMap;
+
+use crate::answer::{answer, Answer, Case};
+use crate::refusal::Refusal;
+
+pub fn refusal_of(answer: &Answer) -> Option<Refusal> {
+    match answer {
+        Answer::PlanRefused { refusal, .. } | Answer::WriteRefused { refusal, .. } => Some(*refusal),
+        Answer::LocateRefused { refusal } | Answer::ReadRefused { refusal } => Some(*refusal),
+        _ => None,
+    }
+}
+
+/// The refusal's number, or a word for the acceptance.
+pub fn label(answer: &Answer) -> String {
+    if let Some(refusal) = refusal_of(answer) {
+        return refusal.number.to_string();
+    }
+    let word = match answer {
+        Answer::Planned { .. } => "planned",
+        Answer::Found { .. } => "found",
+        Answer::Written { .. } => "written",
+        Answer::Integer { .. } => "integer",
+        Answer::Event { .. } => "event",
+        _ => "text",
+    };
+    word.to_string()
+}
+
+pub fn kind_of(case: &Case) -> &'static str {
+    match case {
+        Case::Plan { .. } => "plan",
+        Case::Locate { .. } => "locate",
+        _ => "access",
+    }
+}
+
+/// How often each answer is given, by kind of case.
+#[derive(Debug, Default)]
+pub struct Shares {
+    pub counts: BTreeMap<(&'static str, String), usize>,
+}
+
+impl Shares {
+    pub fn add(&mut self, case: &Case) {
+        *self.counts.entry((kind_of(case), label(&answer(case)))).or_default() += 1;
+    }
+
+    pub fn total(&self, kind: &str) -> usize {
+        self.counts.iter().filter(|((of, _), _)| *of == kind).map(|(_, count)| count).sum()
+    }
+
+    /// The share of an answer among the cases of its kind, in hundredths.
+    pub fn percent(&self, kind: &'static str, label: &str) -> f64 {
+        let count = self.counts.get(&(kind, label.to_string())).copied().unwrap_or(0);
+        100.0 * count as f64 / self.total(kind).max(1) as f64
+    }
+
+    /// One line for each kind and answer: refusals by number, then acceptances.
+    pub fn lines(&self) -> Vec<String> {
+        let mut rows: Vec<_> = self.counts.iter().collect();
+        rows.sort_by_key(|((kind, label), _)| (*kind, label.parse::<u32>().unwrap_or(100), label.clone()));
+        rows.into_iter()
+            .map(|((kind, label), count)| format!("{kind} {label} {count} {:.2} %", self.percent(kind, label)))
+            .collect()
+    }
+}

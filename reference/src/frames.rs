@@ -1,0 +1,200 @@
+//! Frames: the stream of cases as bytes, written and read. All numbers are big-endian.
+
+use std::io::Read;
+
+use crate::access::Access;
+use crate::answer::Case;
+
+/// The limits of a frame.
+pub const ROOM_LIMIT: u64 = 40_000;
+pub const BYTES_LIMIT: usize = 70_000;
+pub const NUMBERS_LIMIT: usize = 40_000;
+
+fn put_bytes(frame: &mut Vec<u8>, bytes: &[u8]) {
+    frame.extend((bytes.len() as u32).to_be_bytes());
+    frame.extend_from_slice(bytes);
+}
+
+fn put_table(frame: &mut Vec<u8>, table: &[i64]) {
+    frame.extend((table.len() as u32).to_be_bytes());
+    for number in table {
+        frame.extend(number.to_be_bytes());
+    }
+}
+
+fn put_access(frame: &mut Vec<u8>, access: &Access) {
+    put_bytes(frame, &access.text);
+    put_table(frame, &access.table);
+    for number in [access.n, access.space, access.first] {
+        frame.extend(number.to_be_bytes());
+    }
+    put_bytes(frame, &access.window);
+}
+
+/// The bytes of a case.
+pub fn frame(case: &Case) -> Vec<u8> {
+    let mut frame = Vec::new();
+    match case {
+        Case::Plan { room, text } => {
+            frame.push(b'P');
+            frame.extend(room.to_be_bytes());
+            put_bytes(&mut frame, text);
+        }
+        Case::Locate { table, n } => {
+            frame.push(b'L');
+            put_table(&mut frame, table);
+            frame.extend(n.to_be_bytes());
+        }
+        Case::WriteInteger { access, negative, magnitude } => {
+            frame.push(b'I');
+            put_access(&mut frame, access);
+            frame.push(*negative as u8);
+            frame.extend(magnitude.to_be_bytes());
+        }
+        Case::WriteEvent { access, value } => {
+            frame.push(b'E');
+            put_access(&mut frame, access);
+            frame.extend(value.to_be_bytes());
+        }
+        Case::WriteText { access, value } => {
+            frame.push(b'S');
+            put_access(&mut frame, access);
+            put_bytes(&mut frame, value);
+        }
+        Case::Read { access } => {
+            frame.push(b'G');
+            put_access(&mut frame, access);
+        }
+    }
+    frame
+}
+
+/// Why no case could be read, and how many bytes of the stream stand before the fault.
+#[derive(Debug, Clone, PartialEq, Eq)]
+pub struct BadFrame {
+    pub place: u64,
+    pub why: &'static str,
+}
+
+/// Reads cases from a stream.
+pub struct Frames<R> {
+    source: R,
+    place: u64,
+}
+
+impl<R: Read> Frames<R> {
+    pub fn new(source: R) -> Self {
+        Frames { source, place: 0 }
+    }
+
+    fn bad<T>(&self, why: &'static str) -> Result<T, BadFrame> {
+        Err(BadFrame { place: self.place, why })
+    }
+
+    fn take(&mut self, count: usize) -> Result<Vec<u8>, BadFrame> {
+        let mut bytes = vec![0; count];
+        if self.source.read_exact(&mut bytes).is_err() {
+            return self.bad("the frame is cut off");
+        }
+        self.place += count as u64;
+        Ok(bytes)
+    }
+
+    fn number(&mut self) -> Result<u64, BadFrame> {
+        let bytes = self.take(8)?;
+        Ok(bytes.iter().fold(0, |number, byte| number << 8 | *byte as u64))
+    }
+
+    fn length(&mut self, limit: usize) -> Result<usize, BadFrame> {
+        let place = self.place;
+        let bytes = self.take(4)?;
+        let length = bytes.iter().fold(0usize, |number, byte| number << 8 | *byte as usize);
+        if length > limit {
+            return Err(BadFrame { place, why: "a length beyond its limit" });
+        }
+        Ok(length)
+    }
+
+    fn bytes(&mut self) -> Result<Vec<u8>, BadFrame> {
+        let length = self.length(BYTES_LIMIT)?;
+        self.take(length)
+    }
+
+    fn table(&mut self) -> Result<Vec<i64>, BadFrame> {
+        let count = self.length(NUMBERS_LIMIT)?;
+        let bytes = self.take(8 * count)?;
+        let number = |part: &[u8]| part.iter().fold(0u64, |number, byte| number << 8 | *byte as u64) as i64;
+        Ok(bytes.chunks(8).map(number).collect())
+    }
+
+    fn access(&mut self) -> Result<Access, BadFrame> {
+        Ok(Access {
+            text: self.bytes()?,
+            table: self.table()?,
+            n: self.number()?,
+            space: self.number()?,
+            first: self.number()?,
+            window: self.bytes()?,
+        })
+    }
+
+    fn room(&mut self) -> Result<u64, BadFrame> {
+        let place = self.place;
+        let room = self.number()?;
+        if room > ROOM_LIMIT {
+            return Err(BadFrame { place, why: "a room beyond its limit" });
+        }
+        Ok(room)
+    }
+
+    fn sign(&mut self) -> Result<bool, BadFrame> {
+        let place = self.place;
+        match self.take(1)?[0] {
+            0 => Ok(false),
+            1 => Ok(true),
+            _ => Err(BadFrame { place, why: "a sign byte other than 0 and 1" }),
+        }
+    }
+
+    /// The first byte of the next frame, or none at the end of the stream.
+    fn first(&mut self) -> Result<Option<u8>, BadFrame> {
+        let mut byte = [0];
+        loop {
+            match self.source.read(&mut byte) {
+                Ok(0) => return Ok(None),
+                Ok(_) => return Ok(Some(byte[0])),
+                Err(error) if error.kind() == std::io::ErrorKind::Interrupted => {}
+                Err(_) => return self.bad("the stream can't be read"),
+            }
+        }
+    }
+
+    fn case(&mut self, first: u8) -> Result<Case, BadFrame> {
+        match first {
+            b'P' => Ok(Case::Plan { room: self.room()?, text: self.bytes()? }),
+            b'L' => Ok(Case::Locate { table: self.table()?, n: self.number()? }),
+            b'I' => {
+                Ok(Case::WriteInteger { access: self.access()?, negative: self.sign()?, magnitude: self.number()? })
+            }
+            b'E' => Ok(Case::WriteEvent { access: self.access()?, value: self.number()? }),
+            b'S' => Ok(Case::WriteText { access: self.access()?, value: self.bytes()? }),
+            b'G' => Ok(Case::Read { access: self.access()? }),
+            _ => Err(BadFrame { place: self.place - 1, why: "an unknown first byte" }),
+        }
+    }
+}
+
+impl<R: Read> Iterator for Frames<R> {
+    type Item = Result<Case, BadFrame>;
+
+    fn next(&mut self) -> Option<Self::Item> {
+        match self.first() {
+            Ok(None) => None,
+            Ok(Some(first)) => {
+                self.place += 1;
+                Some(self.case(first))
+            }
+            Err(bad) => Some(Err(bad)),
+        }
+    }
+}

@@ -1,0 +1,24 @@
+//! An independent reference for the answers of document 01, written from that document in the most literal way.
+//! `answer` gives the answer to a case, `line` its line, `frame` the bytes of a case in the stream.
+
+pub mod access;
+pub mod answer;
+pub mod cases;
+pub mod description;
+pub mod frames;
+pub mod number;
+pub mod pieces;
+pub mod plan;
+pub mod random;
+pub mod reading;
+pub mod refusal;
+pub mod rules;
+pub mod table;
+pub mod text;
+pub mod tree;
+pub mod walk;
+
+pub use access::Access;
+pub use answer::{answer, line, Answer, Case};
+pub use frames::{frame, BadFrame, Frames};
+pub use refusal::Refusal;

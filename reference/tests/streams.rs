@@ -1,0 +1,137 @@
+//! The streams of cases: frames that round-trip, shares of answers, and what small cases keep to.
+
+use reference::cases::stats::Shares;
+use reference::cases::{boundaries, is_small, Sort, Stream};
+use reference::{answer, frame, line, Case, Frames};
+
+#[test]
+fn frames_round_trip() {
+    for small in [false, true] {
+        let stream = Stream::new(11, Sort::All, small);
+        let cases: Vec<Case> = (0..3_000).map(|index| stream.case(index)).collect();
+        let bytes: Vec<u8> = cases.iter().flat_map(frame).collect();
+        let back: Vec<Case> = Frames::new(bytes.as_slice()).map(|case| case.unwrap()).collect();
+        assert!(back == cases);
+    }
+}
+
+#[test]
+fn bad_frames() {
+    let good = frame(&Case::Locate { table: vec![1, -2], n: 3 });
+    let place = |bytes: &[u8]| Frames::new(bytes).find_map(|case| case.err()).map(|bad| bad.place);
+    assert_eq!(place(&good), None);
+    assert_eq!(place(&good[..good.len() - 1]), Some(21));
+    assert_eq!(place(b"X"), Some(0));
+    assert_eq!(place(&[&good[..], b"x"].concat()), Some(good.len() as u64));
+    let mut room = frame(&Case::Plan { room: 40_000, text: vec![0; 70_000] });
+    assert_eq!(place(&room), None);
+    room[8] += 1;
+    assert_eq!(place(&room), Some(1));
+    assert_eq!(place(&frame(&Case::Plan { room: 40_001, text: Vec::new() })), Some(1));
+    assert_eq!(place(&frame(&Case::Plan { room: 0, text: vec![0; 70_001] })), Some(9));
+    assert_eq!(place(&frame(&Case::Locate { table: vec![0; 40_001], n: 0 })), Some(1));
+    let access =
+        reference::Access { text: Vec::new(), table: Vec::new(), n: 0, space: 0, first: 0, window: Vec::new() };
+    let mut sign = frame(&Case::WriteInteger { access, negative: true, magnitude: 1 });
+    assert_eq!(place(&sign), None);
+    let at = sign.len() - 9;
+    sign[at] = 2;
+    assert_eq!(place(&sign), Some(at as u64));
+}
+
+fn shares(sort: Sort, count: u64) -> Shares {
+    let stream = Stream::new(3, sort, false);
+    let mut shares = Shares::default();
+    for index in 0..count {
+        shares.add(&stream.case(index));
+    }
+    shares
+}
+
+fn labels(numbers: impl IntoIterator<Item = u8>, words: &[&str]) -> Vec<String> {
+    numbers.into_iter().map(|number| number.to_string()).chain(words.iter().map(|word| word.to_string())).collect()
+}
+
+#[test]
+fn each_answer_has_its_share() {
+    let wanted = [
+        (Sort::Plan, "plan", labels(1..=13, &["planned"])),
+        (Sort::Locate, "locate", labels(20..=21, &["found"])),
+        (Sort::Access, "access", labels((1..=12).chain(20..=28), &["written", "integer", "event", "text"])),
+    ];
+    for (sort, kind, labels) in wanted {
+        let shares = shares(sort, 6_000);
+        for label in labels {
+            assert!(shares.percent(kind, &label) >= 1.0, "{kind} {label} {}", shares.percent(kind, &label));
+        }
+    }
+}
+
+#[test]
+fn a_default_stream_holds_every_boundary() {
+    // One case in four of one in three of 20,000.
+    let turns = 20_000 / 3 / 4;
+    assert!(boundaries::of_plan().len() <= turns);
+    assert!(boundaries::of_locate().len() <= turns);
+    assert!(boundaries::of_access().len() <= turns);
+}
+
+#[test]
+fn a_stream_is_fixed_by_its_seed() {
+    let lines = |seed: u64| -> Vec<String> {
+        let stream = Stream::new(seed, Sort::All, true);
+        (0..300).map(|index| line(&answer(&stream.case(index)))).collect()
+    };
+    assert_eq!(lines(5), lines(5));
+    assert_ne!(lines(5), lines(6));
+}
+
+#[test]
+fn small_cases_are_small() {
+    let stream = Stream::new(8, Sort::All, true);
+    for index in 0..3_000 {
+        let case = stream.case(index);
+        assert!(is_small(&case));
+        assert!(frame(&case).len() <= 1_600);
+    }
+}
+
+/// The lines of all boundary cases of planning.
+fn plan_lines() -> Vec<String> {
+    boundaries::of_plan().iter().map(|case| line(&answer(case))).collect()
+}
+
+#[test]
+fn the_boundaries_fall_on_both_sides() {
+    let lines = plan_lines();
+    let stands = |start: &str| assert!(lines.iter().any(|line| line.starts_with(start)), "{start}");
+    for start in [
+        "refused 1 0 ",
+        "refused 1 65535 ",
+        "refused 1 65536 ",
+        "refused 3 0 ",
+        "refused 6 22 ",
+        "refused 7 ",
+        "refused 11 155 ",
+        "refused 12 22 ",
+        "refused 13 0 ",
+        "planned 4095 4094 ",
+        "planned 0 0 ",
+        "planned 3 1000000 ",
+        "planned 24 0 ",
+        "planned 23 1 ",
+    ] {
+        stands(start);
+    }
+}
+
+/// Each boundary case is one that a frame may hold.
+#[test]
+fn the_boundaries_are_good_frames() {
+    for cases in [boundaries::of_plan(), boundaries::of_locate(), boundaries::of_access()] {
+        for case in cases {
+            let back = Frames::new(frame(&case).as_slice()).next();
+            assert!(back == Some(Ok(case)));
+        }
+    }
+}
