@@ -2,6 +2,7 @@
 
 use crate::access::{read, write, Access, ReadValue, Value};
 use crate::description::Kind;
+use crate::leaves::{leaf_line, Leaf};
 use crate::plan::plan_into;
 use crate::refusal::Refusal;
 use crate::table::locate;
@@ -15,21 +16,57 @@ pub enum Case {
     WriteEvent { access: Access, value: u64 },
     WriteText { access: Access, value: Vec<u8> },
     Read { access: Access },
+    Leaf(Leaf),
 }
 
 /// One answer, with the lent memory as it is afterwards.
 #[derive(Debug, Clone, PartialEq, Eq)]
 pub enum Answer {
-    Planned { records: u64, variables: u64, table: Vec<i64> },
-    PlanRefused { refusal: Refusal, table: Vec<i64> },
-    Found { record: u64, space: i64, address: i64, size: i64, kind: Kind },
-    LocateRefused { refusal: Refusal },
-    Written { window: Vec<u8> },
-    WriteRefused { refusal: Refusal, window: Vec<u8> },
-    Integer { value: i128, accepted: bool },
-    Event { value: u64, accepted: bool },
-    Text { bytes: Vec<u8>, accepted: bool },
-    ReadRefused { refusal: Refusal },
+    Planned {
+        records: u64,
+        variables: u64,
+        table: Vec<i64>,
+    },
+    PlanRefused {
+        refusal: Refusal,
+        table: Vec<i64>,
+    },
+    Found {
+        record: u64,
+        space: i64,
+        address: i64,
+        size: i64,
+        kind: Kind,
+    },
+    LocateRefused {
+        refusal: Refusal,
+    },
+    Written {
+        window: Vec<u8>,
+    },
+    WriteRefused {
+        refusal: Refusal,
+        window: Vec<u8>,
+    },
+    Integer {
+        value: i128,
+        accepted: bool,
+    },
+    Event {
+        value: u64,
+        accepted: bool,
+    },
+    Text {
+        bytes: Vec<u8>,
+        accepted: bool,
+    },
+    ReadRefused {
+        refusal: Refusal,
+    },
+    /// The line for a single reading.
+    Leaf {
+        line: String,
+    },
 }
 
 /// The table that is lent to the planner: number i holds -7 - i.
@@ -84,6 +121,7 @@ pub fn answer(case: &Case) -> Answer {
         Case::WriteEvent { access, value } => answer_write(access, Value::Event(*value)),
         Case::WriteText { access, value } => answer_write(access, Value::Text(value.clone())),
         Case::Read { access } => answer_read(access),
+        Case::Leaf(leaf) => Answer::Leaf { line: leaf_line(leaf) },
     }
 }
 
@@ -134,5 +172,6 @@ pub fn line(answer: &Answer) -> String {
         Answer::Integer { value, accepted } => format!("integer {value} {}", flag(*accepted)),
         Answer::Event { value, accepted } => format!("event {value} {}", flag(*accepted)),
         Answer::Text { bytes, accepted } => format!("text {} {}", hex(bytes), flag(*accepted)),
+        Answer::Leaf { line } => line.clone(),
     }
 }

@@ -4,6 +4,7 @@ use std::io::Read;
 
 use crate::access::Access;
 use crate::answer::Case;
+use crate::leaves::Leaf;
 
 /// The limits of a frame.
 pub const ROOM_LIMIT: u64 = 40_000;
@@ -29,6 +30,22 @@ fn put_access(frame: &mut Vec<u8>, access: &Access) {
         frame.extend(number.to_be_bytes());
     }
     put_bytes(frame, &access.window);
+}
+
+fn put_leaf(frame: &mut Vec<u8>, leaf: &Leaf) {
+    let (first, bytes) = match leaf {
+        Leaf::Ending(bytes) => (b'Z', bytes),
+        Leaf::Characters(bytes) => (b'U', bytes),
+        Leaf::Number(bytes) => (b'N', bytes),
+        Leaf::Formatting(bytes) => (b'F', bytes),
+        Leaf::Name(bytes) => (b'M', bytes),
+        Leaf::Piece { content, .. } => (b'C', content),
+    };
+    frame.push(first);
+    put_bytes(frame, bytes);
+    if let Leaf::Piece { place, .. } = leaf {
+        frame.extend((*place as u64).to_be_bytes());
+    }
 }
 
 /// The bytes of a case.
@@ -65,6 +82,7 @@ pub fn frame(case: &Case) -> Vec<u8> {
             frame.push(b'G');
             put_access(&mut frame, access);
         }
+        Case::Leaf(leaf) => put_leaf(&mut frame, leaf),
     }
     frame
 }
@@ -156,6 +174,17 @@ impl<R: Read> Frames<R> {
         }
     }
 
+    /// A content and a place in it.
+    fn piece(&mut self) -> Result<Leaf, BadFrame> {
+        let content = self.bytes()?;
+        let at = self.place;
+        let place = self.number()?;
+        if place >= content.len() as u64 {
+            return Err(BadFrame { place: at, why: "a place outside its content" });
+        }
+        Ok(Leaf::Piece { content, place: place as usize })
+    }
+
     /// The first byte of the next frame, or none at the end of the stream.
     fn first(&mut self) -> Result<Option<u8>, BadFrame> {
         let mut byte = [0];
@@ -179,6 +208,12 @@ impl<R: Read> Frames<R> {
             b'E' => Ok(Case::WriteEvent { access: self.access()?, value: self.number()? }),
             b'S' => Ok(Case::WriteText { access: self.access()?, value: self.bytes()? }),
             b'G' => Ok(Case::Read { access: self.access()? }),
+            b'Z' => Ok(Case::Leaf(Leaf::Ending(self.bytes()?))),
+            b'U' => Ok(Case::Leaf(Leaf::Characters(self.bytes()?))),
+            b'N' => Ok(Case::Leaf(Leaf::Number(self.bytes()?))),
+            b'F' => Ok(Case::Leaf(Leaf::Formatting(self.bytes()?))),
+            b'M' => Ok(Case::Leaf(Leaf::Name(self.bytes()?))),
+            b'C' => Ok(Case::Leaf(self.piece()?)),
             _ => Err(BadFrame { place: self.place - 1, why: "an unknown first byte" }),
         }
     }

@@ -8,7 +8,7 @@ use reference::cases::{Sort, Stream};
 use reference::{answer, frame, line, Frames};
 
 const USAGE: &str =
-    "usage: reference answers | reference cases --seed S --count N --kind plan|locate|access|all [--small] [--stats]";
+    "usage: reference answers | reference cases --seed S --count N --kind plan|locate|access|all|leaf [--small] [--stats]";
 
 /// Prints one line for each case of standard input.
 fn answers() -> io::Result<ExitCode> {
@@ -43,6 +43,7 @@ fn sort(word: &str) -> Option<Sort> {
         "locate" => Some(Sort::Locate),
         "access" => Some(Sort::Access),
         "all" => Some(Sort::All),
+        "leaf" => Some(Sort::Leaf),
         _ => None,
     }
 }

@@ -4,10 +4,13 @@
 use crate::refusal::{refusal, Refusal};
 use crate::text::{is_blank, is_xml_character, FIRST_LINE};
 
+/// An attribute, and the places where its name and its value begin.
 #[derive(Debug, Clone, PartialEq, Eq)]
 pub struct Attribute {
     pub name: Vec<u8>,
     pub value: Vec<u8>,
+    pub name_place: usize,
+    pub value_place: usize,
 }
 
 #[derive(Debug, Clone, PartialEq, Eq)]
@@ -141,6 +144,7 @@ fn end_tag(reader: &mut Reader) -> Cut<Kind> {
 }
 
 fn attribute(reader: &mut Reader) -> Cut<Attribute> {
+    let name_place = reader.at;
     let name = reader.name()?;
     reader.blanks();
     reader.must(b"=")?;
@@ -150,9 +154,10 @@ fn attribute(reader: &mut Reader) -> Cut<Attribute> {
         _ => return Err(Off::Malformed),
     };
     reader.at += 1;
+    let value_place = reader.at;
     let value = reader.while_in(|byte| byte != quote && byte != b'<');
     reader.must(&[quote])?;
-    Ok(Attribute { name, value })
+    Ok(Attribute { name, value, name_place, value_place })
 }
 
 fn start_tag(reader: &mut Reader) -> Cut<Kind> {
@@ -176,11 +181,20 @@ fn start_tag(reader: &mut Reader) -> Cut<Kind> {
         }
         attributes.push(found);
     };
-    // Only a tag that keeps every other rule is unsupported for its `&`.
-    if attributes.iter().any(|attribute| attribute.value.contains(&b'&')) {
-        return Err(Off::Unsupported);
-    }
     Ok(Kind::StartTag { name, attributes, closed })
+}
+
+/// Whether an attribute's value has a `&`.
+pub fn refers(attributes: &[Attribute]) -> bool {
+    attributes.iter().any(|attribute| attribute.value.contains(&b'&'))
+}
+
+/// Only a tag that keeps every other rule is unsupported for its `&`.
+fn supported(kind: Kind) -> Cut<Kind> {
+    match &kind {
+        Kind::StartTag { attributes, .. } if refers(attributes) => Err(Off::Unsupported),
+        _ => Ok(kind),
+    }
 }
 
 /// The number that digits of this base spell, or any number above all characters if it is larger.
@@ -251,13 +265,20 @@ fn piece(reader: &mut Reader) -> Cut<Kind> {
     }
 }
 
+/// The piece that begins at a place of the content, whether or not its attributes are supported.
+pub fn piece_at(content: &[u8], place: usize) -> Result<Piece, Off> {
+    let mut reader = Reader { content, at: place };
+    let kind = piece(&mut reader)?;
+    Ok(Piece { place, end: reader.at, kind })
+}
+
 /// All pieces behind the first line, and the fault of the piece that ended the cutting early.
 pub fn cut(content: &[u8]) -> (Vec<Piece>, Option<Refusal>) {
     let mut pieces = Vec::new();
     let mut reader = Reader { content, at: FIRST_LINE.len() };
     while reader.at < content.len() {
         let place = reader.at;
-        match piece(&mut reader) {
+        match piece(&mut reader).and_then(supported) {
             Ok(kind) => pieces.push(Piece { place, end: reader.at, kind }),
             Err(Off::Malformed) => return (pieces, Some(refusal(4, place))),
             Err(Off::Unsupported) => return (pieces, Some(refusal(5, place))),

@@ -2,7 +2,7 @@
 
 use reference::cases::stats::Shares;
 use reference::cases::{boundaries, is_small, Sort, Stream};
-use reference::{answer, frame, line, Case, Frames};
+use reference::{answer, frame, line, Case, Frames, Leaf};
 
 #[test]
 fn frames_round_trip() {
@@ -13,6 +13,28 @@ fn frames_round_trip() {
         let back: Vec<Case> = Frames::new(bytes.as_slice()).map(|case| case.unwrap()).collect();
         assert!(back == cases);
     }
+}
+
+#[test]
+fn single_readings() {
+    let stream = Stream::new(5, Sort::Leaf, false);
+    let cases: Vec<Case> = (0..3_000).map(|index| stream.case(index)).collect();
+    let bytes: Vec<u8> = cases.iter().flat_map(frame).collect();
+    let back: Vec<Case> = Frames::new(bytes.as_slice()).map(|case| case.unwrap()).collect();
+    assert!(back == cases);
+    let told = |leaf: Leaf| line(&answer(&Case::Leaf(leaf)));
+    let piece = |content: &str, place| told(Leaf::Piece { content: content.as_bytes().to_vec(), place });
+    assert_eq!(piece("x<a b = '>' c=\"&amp;\"/>y", 1), "start 2 3 23 short refers 4 5 9 10 12 13 15 20");
+    assert_eq!(piece("x<a b='1' b='2'/>", 1), "malformed");
+    assert_eq!(piece("<a></a >", 3), "finish 5 6 8");
+    assert_eq!(piece("<!--> -->", 0), "remark 9");
+    assert_eq!(piece("<!-- a --->", 0), "malformed");
+    assert_eq!(piece("&#13;", 0), "refer 13 5");
+    assert_eq!(piece("a]]>", 0), "malformed");
+    assert_eq!(piece("<![CDATA[", 0), "unsupported");
+    assert_eq!(told(Leaf::Number(b"-0".to_vec())), "number 0");
+    assert_eq!(told(Leaf::Number(b"18446744073709551616".to_vec())), "number large");
+    assert_eq!(told(Leaf::Name(b"offset".to_vec())), "name 0 8");
 }
 
 #[test]

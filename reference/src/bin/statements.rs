@@ -129,6 +129,7 @@ fn question(case: &Case, text: &str) -> (Vec<u8>, String) {
         Case::WriteText { access, value } => {
             (access.text.clone(), format!("writes {text} {} (string {})", accessed(access), bytes(value)))
         }
+        Case::Leaf(_) => unreachable!("single readings are refused before"),
         Case::Read { access } => (access.text.clone(), format!("read {text} {}", accessed(access))),
     }
 }
@@ -148,6 +149,7 @@ fn told(answer: &Answer) -> String {
         Answer::WriteRefused { refusal, window } => format!("({}, {})", refused(refusal), bytes(window)),
         Answer::Integer { value, accepted } => reading(&format!("integer ({})", whole(*value)), *accepted),
         Answer::Event { value, accepted } => reading(&format!("event {value}"), *accepted),
+        Answer::Leaf { .. } => unreachable!("single readings are refused before"),
         Answer::Text { bytes: value, accepted } => reading(&format!("string {}", bytes(value)), *accepted),
     }
 }
@@ -195,6 +197,10 @@ fn main() -> ExitCode {
             return ExitCode::from(1);
         }
     };
+    if cases.iter().any(|case| matches!(case, Case::Leaf(_))) {
+        eprintln!("a frame of a single reading, about which nothing is stated");
+        return ExitCode::from(1);
+    }
     if let Err(error) = put(Path::new(folder), &cases) {
         eprintln!("{folder}: {error}");
         return ExitCode::from(1);

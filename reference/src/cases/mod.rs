@@ -5,6 +5,7 @@ pub mod accesses;
 pub mod boundaries;
 pub mod damage;
 pub mod describe;
+pub mod leaves;
 pub mod markup;
 pub mod stats;
 pub mod tables;
@@ -24,6 +25,7 @@ pub enum Sort {
     Locate,
     Access,
     All,
+    Leaf,
 }
 
 /// One case in so many is a boundary case.
@@ -74,6 +76,7 @@ impl Stream {
 
     fn chosen_case(&self, index: u64) -> Case {
         let (sort, turn) = match self.sort {
+            Sort::Leaf => return leaves::case(&mut Random::of_case(self.seed, index), index),
             Sort::All => ([Sort::Plan, Sort::Locate, Sort::Access][(index % 3) as usize], index / 3),
             sort => (sort, index),
         };
@@ -227,5 +230,6 @@ pub fn is_small(case: &Case) -> bool {
             access_is_small(access)
         }
         Case::WriteText { access, value } => access_is_small(access) && value.len() <= SMALL_BYTES,
+        Case::Leaf(_) => true,
     }
 }

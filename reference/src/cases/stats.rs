@@ -18,6 +18,9 @@ pub fn label(answer: &Answer) -> String {
     if let Some(refusal) = refusal_of(answer) {
         return refusal.number.to_string();
     }
+    if let Answer::Leaf { line } = answer {
+        return line.split(' ').take(if line.starts_with("characters") { 2 } else { 1 }).collect::<Vec<_>>().join("-");
+    }
     let word = match answer {
         Answer::Planned { .. } => "planned",
         Answer::Found { .. } => "found",
@@ -33,6 +36,7 @@ pub fn kind_of(case: &Case) -> &'static str {
     match case {
         Case::Plan { .. } => "plan",
         Case::Locate { .. } => "locate",
+        Case::Leaf(_) => "leaf",
         _ => "access",
     }
 }
