@@ -1,0 +1,4 @@
+pub mod Along
+pub mod Tests
+pub mod Words
+pub mod Spans
