@@ -1,0 +1,134 @@
+// Answers a stream of cases from standard input, one line for each. A frame that is cut off, beyond its limits or of another first byte ends the
+// run with `bad frame`.
+
+ghost use Prim.Native.Nat.{_≤_, _<_};
+ghost use lib.ListN.{length};
+
+mod input;
+mod leaves;
+mod out;
+
+use input::Byte;
+use input::Field;
+
+// The place in the output behind a frame's line, and whether another frame may follow.
+struct Step {
+    at: usize,
+    on: bool,
+}
+
+fn bad(out: &mut [u8], at: usize) -> Step
+    requires { ⌜ (at ≤ length (now out)) × (0 < length (now out)) ⌝ }
+    ensures { λ r. ⌜ r .at ≤ length (now (out .entry)) ⌝ }
+{
+    let to = out::put_all(out, at, b"bad frame\n");
+    Step { at: to, on: false }
+}
+
+fn ended(out: &mut [u8], at: usize) -> Step
+    requires { ⌜ (at ≤ length (now out)) × (0 < length (now out)) ⌝ }
+    ensures { λ r. ⌜ r .at ≤ length (now (out .entry)) ⌝ }
+{
+    let to = out::put(out, at, 10);
+    Step { at: to, on: true }
+}
+
+// Is it the first byte of a frame that holds bytes and nothing else?
+fn is_plain(first: u8) -> bool {
+    first == b'Z' || first == b'U' || first == b'N' || first == b'F' || first == b'M'
+}
+
+// The answer to such a frame.
+fn plain(first: u8, s: &[u8], out: &mut [u8], at: usize) -> usize
+    requires { ⌜ (at ≤ length (now out)) × (0 < length (now out)) ⌝ }
+    ensures { λ r. ⌜ r ≤ length (now (out .entry)) ⌝ }
+{
+    if first == b'Z' {
+        return leaves::ending(s, out, at);
+    }
+    if first == b'U' {
+        return leaves::characters(s, out, at);
+    }
+    if first == b'N' {
+        return leaves::number(s, out, at);
+    }
+    if first == b'F' {
+        return leaves::formatting(s, out, at);
+    }
+    leaves::name(s, out, at)
+}
+
+// The answer to a frame `C`: the piece at a place, which is read now.
+fn piece(s: &[u8], out: &mut [u8], at: usize) -> Step
+    requires { ⌜ (at ≤ length (now out)) × (0 < length (now out)) ⌝ }
+    ensures { λ r. ⌜ r .at ≤ length (now (out .entry)) ⌝ }
+{
+    let Field::Is(place) = input::read_number() else {
+        return bad(out, at);
+    };
+    if place < s.len() as u64 {
+        let to = leaves::piece(s, place as usize, out, at);
+        return ended(out, to);
+    }
+    bad(out, at)
+}
+
+// The frame that begins with this byte.
+fn frame(first: u8, text: &mut [u8], out: &mut [u8], at: usize) -> Step
+    requires { ⌜ (at ≤ length (now out)) × (0 < length (now out)) ⌝ }
+    ensures { λ r. ⌜ r .at ≤ length (now (out .entry)) ⌝ }
+{
+    let Field::Is(n) = input::read_length(70000) else {
+        return bad(out, at);
+    };
+    if (text.len() as u64) < n {
+        return bad(out, at);
+    }
+    let size = n as usize;
+    if !input::read_bytes(&mut text[0..size]) {
+        return bad(out, at);
+    }
+    if first == b'C' {
+        return piece(&text[0..size], out, at);
+    }
+    let to = plain(first, &text[0..size], out, at);
+    ended(out, to)
+}
+
+// Frames up to the end of the input, or to the first bad one.
+fn run(text: &mut [u8], out: &mut [u8]) -> usize
+    requires { ⌜ 0 < length (now out) ⌝ }
+    ensures { λ r. ⌜ r ≤ length (now (out .entry)) ⌝ }
+{
+    let mut at = 0;
+    let mut left: u64 = 0xFFFF_FFFF_FFFF_FFFF;
+    while 0 < left {
+        left = left - 1;
+        let Byte::Is(first) = input::read_byte() else {
+            return at;
+        };
+        let step = next(first, text, out, at);
+        at = step.at;
+        if !step.on {
+            return at;
+        }
+    }
+    at
+}
+
+fn next(first: u8, text: &mut [u8], out: &mut [u8], at: usize) -> Step
+    requires { ⌜ (at ≤ length (now out)) × (0 < length (now out)) ⌝ }
+    ensures { λ r. ⌜ r .at ≤ length (now (out .entry)) ⌝ }
+{
+    if first == b'C' || is_plain(first) {
+        return frame(first, text, out, at);
+    }
+    bad(out, at)
+}
+
+fn main() {
+    let mut text = [0u8; 70000];
+    let mut out = [0u8; 65536];
+    let at = run(&mut text, &mut out);
+    out::flush(&out, at);
+}

@@ -1,0 +1,4 @@
+pub mod Reading
+pub mod Ranges
+pub mod Formats
+pub mod Once

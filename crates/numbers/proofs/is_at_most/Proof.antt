@@ -1,0 +1,17 @@
+use borrow.Author.Needs.{needs}
+use Rattle.numbers.proofs.Ranges.{order}
+use Rattle.numbers.proofs.is_at_most.Statement.{statement}
+use Rattle.numbers.proofs.is_at_most.Tie as tie
+
+pub is-at-most-spec : {M : Type 1} → statement M
+is-at-most-spec =
+    tie.close (tie.spec
+    (λ c κs. search needs)
+    (λ c. search order)
+    (λ c. search order)
+    (λ c κs. search needs)
+    (λ c κs. search needs)
+    (λ c. search order)
+    (λ c. search order)
+    (λ c κs. search needs)
+    (λ c. search order))

@@ -1,0 +1,15 @@
+use borrow.Author.Needs.{needs}
+use Rattle.numbers.proofs.Formats.{tails}
+use Rattle.numbers.proofs.is_tail.Statement.{statement}
+use Rattle.numbers.proofs.is_tail.Tie as tie
+
+pub is-tail-spec : {M : Type 1} → statement M
+is-tail-spec =
+    tie.close (tie.spec
+    (λ c κs. search needs)
+    (λ c. search needs)
+    (λ c. search needs)
+    (λ c. search needs)
+    (λ c. search needs)
+    (λ c κs. search needs)
+    (λ c. search tails))

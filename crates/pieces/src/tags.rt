@@ -1,0 +1,99 @@
+// Tags. Each reader is handed the part of the content that starts with the tag.
+
+ghost use Prim.Native.Nat.{_≤_};
+ghost use lib.ListN.{length, drop};
+ghost use Rattle.cdi.specs.Pieces.{orMalformed, startTag, endTag};
+ghost use Rattle.pieces.specs.Places.{Closes};
+ghost use Rattle.pieces.specs.Cuts.{tagOf, Cuts};
+use super::attributes::has_reference;
+use super::attributes::is_twice;
+use super::attributes::next_attribute;
+use super::cuts::malformed;
+use super::names::name_end;
+use crate::Cut;
+use crate::Kind;
+use scan::Class;
+use scan::begins_at;
+use scan::span;
+
+// An end tag: s begins with its `</`.
+pub fn end_tag(s: &[u8]) -> Cut
+    requires { ⌜ 2 ≤ length (now s) ⌝ }
+    ensures { λ r. ⌜ Cuts (now (s .entry)) 0 (orMalformed (endTag (drop 2 (now (s .entry))))) r ⌝ }
+{
+    let behind = name_end(s, 2);
+    if behind == 2 {
+        return malformed(s);
+    }
+    let close = span(s, behind, Class::Blank);
+    if begins_at(s, close, b">") {
+        return Cut {
+            kind: Kind::Finish,
+            name: 2,
+            behind,
+            end: close + 1,
+            solid: 0,
+            code: 0,
+            short: false,
+            refers: false,
+        };
+    }
+    malformed(s)
+}
+
+// The place behind the last attribute from this place on, or this place where there is none.
+fn attributes_end(s: &[u8], at: usize) -> usize
+    requires { ⌜ at ≤ length (now s) ⌝ }
+    ensures { λ r. ⌜ Closes (now (s .entry)) at r ⌝ }
+{
+    let mut i = at;
+    loop {
+        let a = next_attribute(s, i);
+        let end = a.end;
+        if end == i {
+            return i;
+        }
+        i = end;
+    }
+}
+
+// A start tag whose name ends before `behind`, and which closes before `end`, in the short form or not.
+fn tag(s: &[u8], behind: usize, end: usize, short: bool) -> Cut
+    requires { ⌜ (1 ≤ behind) × (behind ≤ end) × (1 ≤ end) × (end ≤ length (now s)) ⌝ }
+    ensures { λ r. ⌜ Cuts (now (s .entry)) 0 (orMalformed (tagOf (now (s .entry)) behind end short)) r ⌝ }
+{
+    if is_twice(s, behind) {
+        return malformed(s);
+    }
+    let refers = has_reference(s, behind);
+    Cut {
+        kind: Kind::Start,
+        name: 1,
+        behind,
+        end,
+        solid: 0,
+        code: 0,
+        short,
+        refers,
+    }
+}
+
+// A start tag: s begins with its `<`.
+pub fn start_tag(s: &[u8]) -> Cut
+    requires { ⌜ 1 ≤ length (now s) ⌝ }
+    ensures { λ r. ⌜ Cuts (now (s .entry)) 0 (orMalformed (startTag (drop 1 (now (s .entry))))) r ⌝ }
+{
+    let behind = name_end(s, 1);
+    if behind == 1 {
+        return malformed(s);
+    }
+    let last = attributes_end(s, behind);
+    let close = span(s, last, Class::Blank);
+    if begins_at(s, close, b">") {
+        return tag(s, behind, close + 1, false);
+    }
+    if begins_at(s, close, b"/>") {
+        return tag(s, behind, close + 2, true);
+    }
+    malformed(s)
+}

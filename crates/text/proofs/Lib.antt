@@ -1,0 +1,4 @@
+pub mod Ends
+pub mod Characters
+pub mod Checks
+pub mod Once
