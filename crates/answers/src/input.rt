@@ -1,6 +1,6 @@
 // The fields of frames, read from standard input: bytes, and numbers that are big-endian.
 
-ghost use Prim.Native.Nat.{_≤_, _<_, _^_};
+ghost use Prim.Native.Nat.{_+_, _*_, _≤_, _<_, _^_};
 ghost use lib.ListN.{length};
 
 // A number that was read, or the input ended in it or it is beyond its limit.
@@ -64,4 +64,70 @@ pub fn read_length(limit: u64) -> Field {
 pub fn read_bytes(part: &mut [u8]) -> bool {
     let n = io::read_full(0, part);
     n == part.len()
+}
+
+// Eight bytes of a block as a number.
+fn eight_at(b: &[u8], at: usize) -> u64
+    requires { ⌜ at + 8 ≤ length (now b) ⌝ }
+{
+    four(b[at], b[at + 1], b[at + 2], b[at + 3]) * 0x1_0000_0000
+        + four(b[at + 4], b[at + 5], b[at + 6], b[at + 7])
+}
+
+// Two's complement.
+fn signed(v: u64) -> i64 {
+    if v < 0x8000_0000_0000_0000 {
+        return v as i64;
+    }
+    -1 - ((0xFFFF_FFFF_FFFF_FFFF - v) as i64)
+}
+
+// The numbers of a block to the front of a part of the table.
+fn decode(block: &[u8], part: &mut [i64])
+    requires { ⌜ length (now part) * 8 ≤ length (now block) ⌝ }
+{
+    let mut i = 0;
+    while i < part.len() {
+        part[i] = signed(eight_at(block, i * 8));
+        i += 1;
+    }
+}
+
+fn least(a: usize, b: usize) -> usize
+    ensures { λ r. ⌜ (r ≤ a) × (r ≤ b) ⌝ }
+{
+    if a < b {
+        return a;
+    }
+    b
+}
+
+// As many numbers as the part has, through a block that holds them.
+fn read_block(part: &mut [i64], block: &mut [u8]) -> bool {
+    if block.len() / 8 < part.len() {
+        return false;
+    }
+    let size = part.len() * 8;
+    if !read_bytes(&mut block[0..size]) {
+        return false;
+    }
+    decode(&block[0..size], part);
+    true
+}
+
+// As many numbers as the part has, in blocks of 1,024.
+pub fn read_table(part: &mut [i64], block: &mut [u8]) -> bool {
+    let mut i = 0;
+    while i < part.len() {
+        let k = least(part.len() - i, 1024);
+        if k == 0 {
+            return false;
+        }
+        let to = i + k;
+        if !read_block(&mut part[i..to], block) {
+            return false;
+        }
+        i = to;
+    }
+    true
 }

@@ -7,6 +7,7 @@ ghost use lib.ListN.{length};
 mod input;
 mod leaves;
 mod out;
+mod tables;
 
 use input::Byte;
 use input::Field;
@@ -95,8 +96,30 @@ fn frame(first: u8, text: &mut [u8], out: &mut [u8], at: usize) -> Step
     ended(out, to)
 }
 
+// The answer to a frame `L`: locating in a table.
+fn located(table: &mut [i64], text: &mut [u8], out: &mut [u8], at: usize) -> Step
+    requires { ⌜ (at ≤ length (now out)) × (0 < length (now out)) ⌝ }
+    ensures { λ r. ⌜ r .at ≤ length (now (out .entry)) ⌝ }
+{
+    let Field::Is(count) = input::read_length(40000) else {
+        return bad(out, at);
+    };
+    if (table.len() as u64) < count {
+        return bad(out, at);
+    }
+    let numbers = count as usize;
+    if !input::read_table(&mut table[0..numbers], text) {
+        return bad(out, at);
+    }
+    let Field::Is(n) = input::read_number() else {
+        return bad(out, at);
+    };
+    let to = tables::located(&table[0..numbers], n, out, at);
+    ended(out, to)
+}
+
 // Frames up to the end of the input, or to the first bad one.
-fn run(text: &mut [u8], out: &mut [u8]) -> usize
+fn run(text: &mut [u8], table: &mut [i64], out: &mut [u8]) -> usize
     requires { ⌜ 0 < length (now out) ⌝ }
     ensures { λ r. ⌜ r ≤ length (now (out .entry)) ⌝ }
 {
@@ -107,7 +130,7 @@ fn run(text: &mut [u8], out: &mut [u8]) -> usize
         let Byte::Is(first) = input::read_byte() else {
             return at;
         };
-        let step = next(first, text, out, at);
+        let step = next(first, text, table, out, at);
         at = step.at;
         if !step.on {
             return at;
@@ -116,19 +139,23 @@ fn run(text: &mut [u8], out: &mut [u8]) -> usize
     at
 }
 
-fn next(first: u8, text: &mut [u8], out: &mut [u8], at: usize) -> Step
+fn next(first: u8, text: &mut [u8], table: &mut [i64], out: &mut [u8], at: usize) -> Step
     requires { ⌜ (at ≤ length (now out)) × (0 < length (now out)) ⌝ }
     ensures { λ r. ⌜ r .at ≤ length (now (out .entry)) ⌝ }
 {
     if first == b'C' || is_plain(first) {
         return frame(first, text, out, at);
     }
+    if first == b'L' {
+        return located(table, text, out, at);
+    }
     bad(out, at)
 }
 
 fn main() {
     let mut text = [0u8; 70000];
+    let mut table = [0i64; 40000];
     let mut out = [0u8; 65536];
-    let at = run(&mut text, &mut out);
+    let at = run(&mut text, &mut table, &mut out);
     out::flush(&out, at);
 }

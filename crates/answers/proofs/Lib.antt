@@ -1,0 +1,2 @@
+-- What the program's arithmetic needs.
+pub mod Turned

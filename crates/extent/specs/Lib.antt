@@ -1,0 +1,2 @@
+-- Extents.
+pub mod Reach

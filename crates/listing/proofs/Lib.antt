@@ -1,0 +1,6 @@
+-- The laws of listing.
+pub mod Batches
+pub mod Filled
+pub mod Going
+pub mod Listed
+pub mod Once

@@ -1,0 +1,62 @@
+-- One answer: any two outcomes that a public function's contract allows are equal. (The table is only read.)
+use mathlib.Core.Path.{_≡_, refl, sym, ap, _∙_}
+use mathlib.Core.List.{List}
+use mathlib.Core.Bool.{Bool}
+use Prim.Native.Nat.{ℕ}
+use native.Mathlib.Omega.{arith}
+use lib.IntN.{ℤ}
+use Rattle.cdi.specs.Faults.{Answer, Fault}
+use Rattle.cdi.specs.Faults.Answer.{accepted, refused}
+use Rattle.cdi.specs.Walk.{Found}
+use Rattle.cdi.specs.Plans.{segmentsOf, isPlan, variableOf, locating}
+use Rattle.locate.specs.Finding.{toldOf, insideOf}
+use Rattle.locate.specs.declared.Located.{Located}
+use Rattle.locate.specs.declared.Located.the-variants.{Variable as At, NotAPlan, NoVariable}
+
+-- a contract that is an equation allows one answer: so for every function of the modules `table`, `ranges` and `inside` but `find_in`
+pub once : {A : Type 0} {x y z : A} → x ≡ z → y ≡ z → x ≡ y
+once p q = p ∙ sym q
+
+-- ── the enum's cases have different answers ──
+
+same-found : (f g : Found) → _≡_ {A = Answer Found} (accepted f) (accepted g) → f ≡ g
+same-found f g e = cc
+
+same-fault : (f g : Fault) → _≡_ {A = Answer Found} (refused f) (refused g) → f ≡ g
+same-fault f g e = cc
+
+apart : (f : Found) (g : Fault) → accepted f ≡ refused g → ⊥
+apart f g e = let z : _≡_ {A = ℕ} 0 1 = cc in omega arith
+
+pub one-case : (r s : Located) → toldOf r ≡ toldOf s → r ≡ s
+unfolding toldOf
+one-case (At r s a z k) (At r′ s′ a′ z′ k′) e =
+    let f = same-found _ _ e in
+    let p = ap (λ (x : Found). x .number) f in
+    let q = ap (λ (x : Found). x .space) f in
+    let u = ap (λ (x : Found). x .address) f in
+    let v = ap (λ (x : Found). x .size) f in
+    let w = ap (λ (x : Found). x .kind) f in
+    cc
+one-case (At r s a z k) NotAPlan e = absurd (apart _ _ e)
+one-case (At r s a z k) NoVariable e = absurd (apart _ _ e)
+one-case NotAPlan (At r s a z k) e = absurd (apart _ _ (sym e))
+one-case NotAPlan NotAPlan e = refl
+one-case NotAPlan NoVariable e = let f = ap (λ (x : Fault). x .number) (same-fault _ _ e) in absurd (omega arith)
+one-case NoVariable (At r s a z k) e = absurd (apart _ _ (sym e))
+one-case NoVariable NotAPlan e = let f = ap (λ (x : Fault). x .number) (same-fault _ _ e) in absurd (omega arith)
+one-case NoVariable NoVariable e = refl
+
+-- ── the public functions ──
+
+pub is-plan-once : (t : List ℤ) (r s : Bool) → r ≡ isPlan t → s ≡ isPlan t → r ≡ s
+is-plan-once t r s p q = once p q
+
+pub find-once : (t : List ℤ) (n : ℕ) (r s : Located) → toldOf r ≡ variableOf (segmentsOf t) n → toldOf s ≡ variableOf (segmentsOf t) n → r ≡ s
+find-once t n r s p q = one-case r s (once p q)
+
+pub locate-once : (t : List ℤ) (n : ℕ) (r s : Located) → toldOf r ≡ locating t n → toldOf s ≡ locating t n → r ≡ s
+locate-once t n r s p q = one-case r s (once p q)
+
+pub find-in-once : (t : List ℤ) (space i e a n : ℕ) (r s : Located) → toldOf r ≡ insideOf t space i e a n → toldOf s ≡ insideOf t space i e a n → r ≡ s
+find-in-once t space i e a n r s p q = one-case r s (once p q)

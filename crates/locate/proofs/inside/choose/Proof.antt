@@ -1,0 +1,13 @@
+use borrow.Author.Needs.{needs}
+use Rattle.locate.proofs.Dividing.{choosing}
+use Rattle.locate.proofs.inside.choose.Statement.{statement}
+use Rattle.locate.proofs.inside.choose.Tie as tie
+
+pub choose-spec : {M : Type 1} → statement M
+choose-spec =
+    tie.close (tie.spec
+    (λ c κs. search needs)
+    (λ c. search needs)
+    (λ c κs. search choosing)
+    (λ c. search needs)
+    (λ c. search choosing))

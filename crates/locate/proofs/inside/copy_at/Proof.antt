@@ -1,0 +1,20 @@
+use borrow.Author.Needs.{needs}
+use Rattle.locate.proofs.Dividing.{copying}
+use Rattle.locate.proofs.inside.copy_at.Statement.{statement}
+use Rattle.locate.proofs.inside.copy_at.Tie as tie
+
+pub copy-at-spec : {M : Type 1} → statement M
+copy-at-spec =
+    tie.close (tie.spec
+    (λ c κs. search needs)
+    (λ c κs. search needs)
+    (λ c κs. search needs)
+    (λ c. search needs)
+    (λ c. search copying)
+    (λ c. search copying)
+    (λ c. search copying)
+    (λ c. search needs)
+    (λ c. search needs)
+    (λ c. search copying)
+    (λ c. search copying)
+    (λ c. search copying))

@@ -1,0 +1,12 @@
+use borrow.Author.Needs.{needs}
+use Rattle.locate.proofs.Dividing.{copying}
+use Rattle.locate.proofs.inside.each.Statement.{statement}
+use Rattle.locate.proofs.inside.each.Tie as tie
+
+pub each-spec : {M : Type 1} → statement M
+each-spec =
+    tie.close (tie.spec
+    (λ c κs. search needs)
+    (λ c κs. search needs)
+    (λ c. search needs)
+    (λ c. search copying))

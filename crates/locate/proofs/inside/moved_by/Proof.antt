@@ -1,0 +1,14 @@
+use borrow.Author.Needs.{needs}
+use Rattle.locate.proofs.Dividing.{copying}
+use Rattle.locate.proofs.inside.moved_by.Statement.{statement}
+use Rattle.locate.proofs.inside.moved_by.Tie as tie
+
+pub moved-by-spec : {M : Type 1} → statement M
+moved-by-spec =
+    tie.close (tie.spec
+    (λ c κs. search needs)
+    (λ c. search needs)
+    (λ c. search copying)
+    (λ c κs. search needs)
+    (λ c. search needs)
+    (λ c. search copying))

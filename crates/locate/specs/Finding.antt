@@ -1,0 +1,75 @@
+-- What the locator's answers say, and the words of its code.
+use mathlib.Core.Path.{_≡_}
+use mathlib.Core.List.{List, map}
+use mathlib.Core.Bool.{true, cond}
+use Prim.Native.Nat.{ℕ, _+_, _-_, _*_, _/_, _%_, _^_, _≤_}
+use lib.Dec.{leb}
+use lib.ListN.{getD}
+use lib.IntN.{ℤ, pos, negℤ}
+use Rattle.cdi.specs.Faults.{Answer, fault}
+use Rattle.cdi.specs.Faults.Answer.{accepted, refused}
+use Rattle.cdi.specs.Rules.{natural}
+use Rattle.cdi.specs.Walk.{Variable, Found, found, steps, variables}
+use Rattle.cdi.specs.Plans.{field, replicationOf, itemsIn}
+use Rattle.extent.specs.Reach.{fitsAt}
+use Rattle.locate.specs.Judging.{goodIn, itemsExtent}
+use Rattle.locate.specs.declared.Located.{Located}
+use Rattle.locate.specs.declared.Located.the-variants.{Variable as At, NotAPlan, NoVariable}
+use Rattle.locate.specs.declared.inside.Copied.{Copied}
+
+-- document 01's answer for each case: the variable, 20 "not a plan", 21 "no variable n"
+unfoldable pub toldOf : Located → Answer Found
+toldOf (At r s a z k) = accepted (record { number = r; space = s; address = a; size = z; kind = k })
+toldOf NotAPlan = refused (fault 20 0)
+toldOf NoVariable = refused (fault 21 0)
+
+-- a variable of a segment as an answer
+unfoldable pub answer : ℕ → Variable → Answer Found
+answer space v = accepted (found space v)
+
+-- variable n of the records from i to before e, walked from address a
+unfoldable pub insideOf : List ℤ → ℕ → ℕ → ℕ → ℕ → ℕ → Answer Found
+insideOf t space i e a n = getD (map (answer space) (variables (pos a) (steps i (itemsIn t i e)))) n (refused (fault 21 0))
+
+-- good records, whose walk from address a keeps the limits
+pub record Site (t : List ℤ) (i e a : ℕ) : Type 0 where
+  pub depth : ℕ
+  pub good : goodIn t depth i e ≡ true
+  pub keeps : fitsAt a (itemsExtent t i e) ≡ true
+
+-- an address changed by field f of record i
+unfoldable pub movedBy : List ℤ → ℕ → ℕ → ℕ → ℕ
+movedBy t i f a = a + natural (field t i f) - natural (negℤ (field t i f))
+
+-- the change of group i less its own offset, in two parts: what all copies rise by, and what they fall by
+unfoldable pub allRise : List ℤ → ℕ → ℕ
+allRise t i = natural (field t i 7) + natural (negℤ (field t i 2))
+
+unfoldable pub allFall : List ℤ → ℕ → ℕ
+allFall t i = natural (negℤ (field t i 7)) + natural (field t i 2)
+
+-- the variables of one copy
+unfoldable pub eachOf : List ℤ → ℕ → ℕ
+eachOf t i = natural (field t i 6) / replicationOf t i
+
+-- where copy q starts, if the first starts at a
+unfoldable pub copyAt : List ℤ → ℕ → ℕ → ℕ → ℕ
+copyAt t i a q =
+    cond (leb (allFall t i) (allRise t i))
+    (a + q * ((allRise t i - allFall t i) / replicationOf t i))
+    (a - q * ((allFall t i - allRise t i) / replicationOf t i))
+
+-- the copy that holds variable n of all copies
+unfoldable pub copyOf : List ℤ → ℕ → ℕ → ℕ → Copied
+copyOf t i a n = record { start = copyAt t i a (n / eachOf t i); number = n % eachOf t i }
+
+-- there is such a copy, and no number on the way to it is too large
+pub record Chosen (t : List ℤ) (i a n : ℕ) : Type 0 where
+  pub some : 1 ≤ replicationOf t i
+  pub each : 1 ≤ eachOf t i
+  pub high : a + n / eachOf t i * ((allRise t i - allFall t i) / replicationOf t i) ≤ 2 ^ 32
+  pub low : n / eachOf t i * ((allFall t i - allRise t i) / replicationOf t i) ≤ a
+
+unfoldable pub finding-page : Unit {0}
+unfolding toldOf answer insideOf movedBy allRise allFall eachOf copyAt copyOf
+finding-page = tt

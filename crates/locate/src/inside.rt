@@ -1,0 +1,141 @@
+// Where variable n of good records stands: along the records, past whole elements by their counts, and down into the one copy that holds it.
+
+use crate::Located;
+use crate::ranges::GROUP;
+use crate::table::CHANGE;
+use crate::table::COUNT;
+use crate::table::EXTRA;
+use crate::table::KIND;
+use crate::table::NEXT;
+use crate::table::REPLICATION;
+use crate::table::START;
+use crate::table::fall_at;
+use crate::table::rise_at;
+ghost use mathlib.Core.Path.{_≡_};
+ghost use Prim.Native.Nat.{_≤_, _<_, _+_, _-_, _*_, _/_, _^_};
+ghost use lib.ListN.{length};
+ghost use lib.IntN.{negℤ};
+ghost use Rattle.cdi.specs.Rules.{natural};
+ghost use Rattle.cdi.specs.Plans.{field};
+ghost use Rattle.locate.specs.Finding.{toldOf, insideOf, Site, movedBy, allRise, allFall, eachOf, copyAt, copyOf, Chosen};
+
+// One copy of a group's members: the address it starts at, and the number of the sought variable in it.
+pub struct Copied {
+    pub start: u64,
+    pub number: u64,
+}
+
+// The address changed by number `which` of record `i`.
+pub fn moved_by(table: &[i64], i: usize, which: usize, address: u64) -> u64
+    requires { ⌜ (i * 8 + 8 ≤ length (now table)) × (which < 8) × (address ≤ 2 ^ 32) × (natural (negℤ (field (now table) i which)) ≤ address) ⌝ }
+    ensures { λ r. ⌜ r ≡ movedBy (now (table .entry)) i which address ⌝ }
+{
+    let down = fall_at(table, i, which);
+    if 0 < down {
+        return address - down;
+    }
+    address + rise_at(table, i, which)
+}
+
+// What all copies of group `i` rise by together, before what they fall by is taken off: its change less its own offset.
+fn all_rise(table: &[i64], i: usize) -> u64
+    requires { ⌜ i * 8 + 8 ≤ length (now table) ⌝ }
+    ensures { λ r. ⌜ r ≡ allRise (now (table .entry)) i ⌝ }
+{
+    let up = rise_at(table, i, CHANGE);
+    let offset_down = fall_at(table, i, START);
+    up + offset_down
+}
+
+// What they fall by.
+fn all_fall(table: &[i64], i: usize) -> u64
+    requires { ⌜ i * 8 + 8 ≤ length (now table) ⌝ }
+    ensures { λ r. ⌜ r ≡ allFall (now (table .entry)) i ⌝ }
+{
+    let down = fall_at(table, i, CHANGE);
+    let offset_up = rise_at(table, i, START);
+    down + offset_up
+}
+
+// The variables of one copy of group `i`.
+pub fn each(table: &[i64], i: usize) -> u64
+    requires { ⌜ (i * 8 + 8 ≤ length (now table)) × (1 ≤ natural (field (now table) i 4)) ⌝ }
+    ensures { λ r. ⌜ r ≡ eachOf (now (table .entry)) i ⌝ }
+{
+    let count = rise_at(table, i, COUNT);
+    let replication = rise_at(table, i, REPLICATION);
+    count / replication
+}
+
+// Where copy `q` of group `i` starts, counted from 0, if the first starts at `first`.
+fn copy_at(table: &[i64], i: usize, first: u64, q: u64) -> u64
+    requires { ⌜ (i * 8 + 8 ≤ length (now table)) × (1 ≤ natural (field (now table) i 4))
+        × (first + q * ((allRise (now table) i - allFall (now table) i) / natural (field (now table) i 4)) ≤ 2 ^ 32)
+        × (q * ((allFall (now table) i - allRise (now table) i) / natural (field (now table) i 4)) ≤ first) ⌝ }
+    ensures { λ r. ⌜ r ≡ copyAt (now (table .entry)) i first q ⌝ }
+{
+    let up = all_rise(table, i);
+    let down = all_fall(table, i);
+    let replication = rise_at(table, i, REPLICATION);
+    if down <= up {
+        return first + q * ((up - down) / replication);
+    }
+    first - q * ((down - up) / replication)
+}
+
+// The copy of group `i` that holds variable `n` of all its copies.
+pub fn choose(table: &[i64], i: usize, first: u64, n: u64) -> Copied
+    requires { ⌜ (i * 8 + 8 ≤ length (now table)) × Chosen (now table) i first n ⌝ }
+    ensures { λ r. ⌜ r ≡ copyOf (now (table .entry)) i first n ⌝ }
+{
+    let variables = each(table, i);
+    let start = copy_at(table, i, first, n / variables);
+    Copied {
+        start: start,
+        number: n % variables,
+    }
+}
+
+// The number of the record after the subtree of record `i`.
+pub fn next_record(table: &[i64], i: usize, end: usize) -> usize
+    requires { ⌜ (i * 8 + 8 ≤ length (now table)) × (i < natural (field (now table) i 5)) × (natural (field (now table) i 5) ≤ end) ⌝ }
+    ensures { λ r. ⌜ (r ≡ natural (field (now (table .entry)) i 5)) × (i < r) × (r ≤ end) ⌝ }
+{
+    rise_at(table, i, NEXT) as usize
+}
+
+// Variable `n` of the data elements from record `from` to before `end`, walked from `origin`.
+pub fn find_in(table: &[i64], from: usize, end: usize, origin: u64, n: u64, space: u64) -> Located
+    requires { ⌜ (from ≤ end) × (end * 8 ≤ length (now table)) × Site (now table) from end origin ⌝ }
+    ensures { λ r. ⌜ toldOf r ≡ insideOf (now (table .entry)) space from end origin n ⌝ }
+{
+    let mut i = from;
+    let mut address = origin;
+    let mut left = n;
+    while i < end {
+        let count = rise_at(table, i, COUNT);
+        let next = next_record(table, i, end);
+        if left < count {
+            let start = moved_by(table, i, START, address);
+            let kind = rise_at(table, i, KIND);
+            if kind == GROUP {
+                let copy = choose(table, i, start, left);
+                let first = copy.start;
+                let number = copy.number;
+                return find_in(table, i + 1, next, first, number, space);
+            }
+            let size = rise_at(table, i, EXTRA);
+            return Located::Variable {
+                record: i,
+                space: space,
+                address: start,
+                size: size,
+                kind: kind,
+            };
+        }
+        left = left - count;
+        address = moved_by(table, i, CHANGE, address);
+        i = next;
+    }
+    Located::NoVariable
+}

@@ -1,0 +1,82 @@
+// Which tables are plans, and where variable n of a plan lives: asked of a table alone.
+
+pub mod inside;
+mod plan;
+pub mod ranges;
+pub mod table;
+
+use inside::find_in;
+use inside::next_record;
+use plan::segments;
+use table::COUNT;
+use table::EXTRA;
+use table::NUMBERS;
+use table::START;
+use table::rise_at;
+ghost use mathlib.Core.Path.{_≡_};
+ghost use mathlib.Core.Bool.{true};
+ghost use Rattle.cdi.specs.Plans.{isPlan, segmentsOf, variableOf, locating};
+ghost use Rattle.locate.specs.Finding.{toldOf};
+
+// "it has at most 4,095 records"
+const MOST_RECORDS: usize = 4095;
+
+// A variable (the number of its record, its space, address, size and kind), or the refusal: 20 for `NotAPlan`, 21 for `NoVariable`.
+pub enum Located {
+    Variable {
+        record: usize,
+        space: u64,
+        address: u64,
+        size: u64,
+        kind: u64,
+    },
+    NotAPlan,
+    NoVariable,
+}
+
+// Whether the table is a plan. Any slice may be asked; the time is that of one pass over its records.
+pub fn is_plan(table: &[i64]) -> bool
+    ensures { λ r. ⌜ r ≡ isPlan (now (table .entry)) ⌝ }
+{
+    let numbers = table.len();
+    if numbers % NUMBERS != 0 {
+        return false;
+    }
+    let records = numbers / NUMBERS;
+    if MOST_RECORDS < records {
+        return false;
+    }
+    segments(table, records)
+}
+
+// Variable `n` of a table that is known to be a plan: what a caller repeats once the test has passed.
+pub fn find(table: &[i64], n: u64) -> Located
+    requires { ⌜ isPlan (now table) ≡ true ⌝ }
+    ensures { λ r. ⌜ toldOf r ≡ variableOf (segmentsOf (now (table .entry))) n ⌝ }
+{
+    let records = table.len() / NUMBERS;
+    let mut i = 0;
+    let mut left = n;
+    while i < records {
+        let count = rise_at(table, i, COUNT);
+        let next = next_record(table, i, records);
+        if left < count {
+            let origin = rise_at(table, i, START);
+            let space = rise_at(table, i, EXTRA);
+            return find_in(table, i + 1, next, origin, left, space);
+        }
+        left = left - count;
+        i = next;
+    }
+    Located::NoVariable
+}
+
+// Variable `n` of any table: entry `n` of the walk that copies every group out, or the refusal.
+pub fn locate(table: &[i64], n: u64) -> Located
+    ensures { λ r. ⌜ toldOf r ≡ locating (now (table .entry)) n ⌝ }
+{
+    if !is_plan(table) {
+        return Located::NotAPlan;
+    }
+    find(table, n)
+}
