@@ -1,3 +1,4 @@
 pub mod Places
 pub mod Characters
 pub mod Cuts
+pub mod Keys
