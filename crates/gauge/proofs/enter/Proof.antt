@@ -1,0 +1,12 @@
+use borrow.Author.Needs.{needs}
+use Rattle.gauge.proofs.Moving.{entering}
+use Rattle.gauge.proofs.enter.Statement.{statement}
+use Rattle.gauge.proofs.enter.Tie as tie
+
+pub enter-spec : {M : Type 1} → statement M
+enter-spec =
+    tie.close (tie.spec
+    (λ c κs. search needs)
+    (λ c κs. search needs)
+    (λ c κs. search needs)
+    (λ c. search entering))

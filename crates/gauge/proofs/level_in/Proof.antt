@@ -1,0 +1,16 @@
+use borrow.Author.Needs.{needs}
+use Rattle.scan.proofs.Tests.{tests, calls}
+use Rattle.gauge.specs.Numbered.{levelBy}
+use Rattle.gauge.proofs.level_in.Statement.{statement}
+use Rattle.gauge.proofs.level_in.Tie as tie
+
+pub level-in-spec : {M : Type 1} → statement M
+unfolding levelBy
+level-in-spec =
+    tie.close (tie.spec
+    (λ c. search (tests, calls))
+    (λ c κs. search needs)
+    (λ c. search (tests, calls))
+    (λ c κs. search needs)
+    (λ c. search (tests, calls))
+    (λ c. search (tests, calls)))

@@ -1,0 +1,2 @@
+pub mod Gauging
+pub mod Numbered

@@ -1,0 +1,20 @@
+use borrow.Author.Needs.{needs}
+use Rattle.rules.proofs.Attributed.{attribute-faults}
+use Rattle.rules.proofs.attributes.attribute_blame.Statement.{statement}
+use Rattle.rules.proofs.attributes.attribute_blame.Tie as tie
+
+pub attribute-blame-spec : {M : Type 1} → statement M
+attribute-blame-spec =
+    tie.close (tie.spec
+    (λ c κs. search needs)
+    (λ c κs. search needs)
+    (λ c κs. search needs)
+    (λ c κs. search needs)
+    (λ c κs. search needs)
+    (λ c κs. search needs)
+    (λ c κs. search needs)
+    (λ c κs. search needs)
+    (λ c κs. search needs)
+    (λ c κs. search needs)
+    (λ c κs. search needs)
+    (λ c. search attribute-faults))
