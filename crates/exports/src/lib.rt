@@ -1,0 +1,51 @@
+// The locator and listing under C names, so that bench/ can time them. No part of the library: of the first two functions only safety is
+// proved here, and what they call has its contracts in `locate`.
+
+ghost use mathlib.Core.Path.{_≡_};
+ghost use mathlib.Core.Bool.{true};
+ghost use lib.ListN.{length};
+ghost use Rattle.cdi.specs.Plans.{isPlan, segmentsOf};
+ghost use Rattle.cdi.specs.Walk.{walk};
+ghost use Rattle.listing.specs.Batch.{batch, listed};
+use locate::Located;
+
+// In place of an address, where there is none.
+const NONE: u64 = 18446744073709551615;
+
+fn address_of(told: Located) -> u64 {
+    match told {
+        Located::Variable {
+            record: _,
+            space: _,
+            address,
+            size: _,
+            kind: _,
+        } => address,
+        Located::NotAPlan => NONE,
+        Located::NoVariable => NONE,
+    }
+}
+
+// The address of variable n of any table.
+#[no_mangle]
+pub extern "C" fn timed_locate(table: &[i64], n: u64) -> u64 {
+    address_of(locate::locate(table, n))
+}
+
+// The address of variable n of a plan.
+#[no_mangle]
+pub extern "C" fn timed_find(table: &[i64], n: u64) -> u64
+    requires { ⌜ isPlan (now table) ≡ true ⌝ }
+{
+    address_of(locate::find(table, n))
+}
+
+// The variables from n on.
+#[no_mangle]
+pub extern "C" fn timed_list(table: &[i64], n: u64, out: &mut [u64]) -> usize
+    requires { ⌜ isPlan (now table) ≡ true ⌝ }
+    ensures { λ r. ⌜ r ≡ length (batch (walk (segmentsOf (now (table .entry)))) n (now (out .entry))) ⌝ }
+    ensures { λ r. ⌜ now (out .exit) ≡ listed (walk (segmentsOf (now (table .entry)))) n (now (out .entry)) ⌝ }
+{
+    listing::list(table, n, out)
+}
