@@ -2,7 +2,7 @@
 // stand at the tag's `<`. A tag's attributes begin behind its name.
 
 ghost use mathlib.Core.Path.{_≡_};
-ghost use Prim.Native.Nat.{_+_, _≤_, _<_};
+ghost use Prim.Native.Nat.{_≤_, _<_};
 ghost use lib.ListN.{length, drop};
 ghost use Rattle.cdi.specs.Words.{same as sameBytes, all};
 ghost use Rattle.cdi.specs.Pieces.{attributes};

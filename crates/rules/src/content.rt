@@ -2,10 +2,7 @@
 
 ghost use mathlib.Core.Path.{_≡_};
 ghost use mathlib.Core.Bool.{cond};
-ghost use Prim.Native.Nat.{_≤_};
-ghost use lib.ListN.{length};
 ghost use Rattle.cdi.specs.Numbers.{number};
-ghost use Rattle.pieces.specs.Places.{part};
 ghost use Rattle.pieces.specs.Cuts.{pieceOf, Stands};
 ghost use Rattle.rules.specs.Judging.{blamed, rowAt, saidBy, saidFaults, isValue, spoken, isNumberRow};
 ghost use Rattle.rules.specs.Parts.{isRun, isSilent, strayBy, isNumeric};

@@ -2,9 +2,8 @@
 // rules of an element's attributes. Row 0 is the text itself; rows from 12 on are those of elements that hold text only.
 
 ghost use mathlib.Core.Path.{_≡_};
-ghost use Prim.Native.Nat.{_+_, _*_, _≤_, _<_};
+ghost use Prim.Native.Nat.{_≤_, _<_};
 ghost use lib.Dec.{eqb};
-ghost use Rattle.cdi.specs.Rows.{Row};
 ghost use Rattle.rules.specs.Judging.{rowAt};
 ghost use Rattle.rules.specs.Tables.{entryAt, manyAt, inTurn, ruleAt, attributeOf, isRequired};
 
