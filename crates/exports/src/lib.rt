@@ -1,18 +1,22 @@
-// The locator and listing under C names, so that bench/ can time them. No part of the library: of the first two functions only safety is
-// proved here, and what they call has its contracts in `locate`.
+// The locator and listing under C names, so that bench/ can time them. No part of the library.
 
 ghost use mathlib.Core.Path.{_≡_};
 ghost use mathlib.Core.Bool.{true};
 ghost use lib.ListN.{length};
-ghost use Rattle.cdi.specs.Plans.{isPlan, segmentsOf};
+ghost use Rattle.cdi.specs.Plans.{isPlan, segmentsOf, variableOf, locating};
 ghost use Rattle.cdi.specs.Walk.{walk};
+ghost use Rattle.locate.specs.Finding.{toldOf};
 ghost use Rattle.listing.specs.Batch.{batch, listed};
+ghost use Rattle.exports.specs.Addresses.{addressIn};
 use locate::Located;
 
 // In place of an address, where there is none.
 const NONE: u64 = 18446744073709551615;
 
-fn address_of(told: Located) -> u64 {
+// The address of what the locator says.
+fn address_of(told: Located) -> u64
+    ensures { λ r. ⌜ r ≡ addressIn (toldOf told) ⌝ }
+{
     match told {
         Located::Variable {
             record: _,
@@ -28,7 +32,9 @@ fn address_of(told: Located) -> u64 {
 
 // The address of variable n of any table.
 #[no_mangle]
-pub extern "C" fn timed_locate(table: &[i64], n: u64) -> u64 {
+pub extern "C" fn timed_locate(table: &[i64], n: u64) -> u64
+    ensures { λ r. ⌜ r ≡ addressIn (locating (now (table .entry)) n) ⌝ }
+{
     address_of(locate::locate(table, n))
 }
 
@@ -36,6 +42,7 @@ pub extern "C" fn timed_locate(table: &[i64], n: u64) -> u64 {
 #[no_mangle]
 pub extern "C" fn timed_find(table: &[i64], n: u64) -> u64
     requires { ⌜ isPlan (now table) ≡ true ⌝ }
+    ensures { λ r. ⌜ r ≡ addressIn (variableOf (segmentsOf (now (table .entry))) n) ⌝ }
 {
     address_of(locate::find(table, n))
 }

@@ -1,0 +1,2 @@
+-- The law of the timed functions.
+pub mod Told

@@ -1,0 +1,2 @@
+-- What the timed functions give.
+pub mod Addresses
