@@ -1,7 +1,10 @@
 // The fields of frames, read from standard input: bytes, and numbers that are big-endian.
 
+ghost use mathlib.Core.Path.{_≡_};
+ghost use mathlib.Core.Bool.{true};
 ghost use Prim.Native.Nat.{_+_, _*_, _≤_, _<_, _^_};
 ghost use lib.ListN.{length};
+ghost use Rattle.answers.specs.Limits.{keeps};
 
 // A number that was read, or the input ended in it or it is beyond its limit.
 pub enum Field {
@@ -47,7 +50,9 @@ pub fn read_number() -> Field {
 }
 
 // Four bytes, and not above the limit.
-pub fn read_length(limit: u64) -> Field {
+pub fn read_length(limit: u64) -> Field
+    ensures { λ r. ⌜ keeps limit r ≡ true ⌝ }
+{
     let mut b = [0u8; 4];
     let n = io::read_full(0, &mut b);
     if n < 4 {

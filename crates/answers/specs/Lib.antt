@@ -1,0 +1,2 @@
+-- What the fields of a frame may be.
+pub mod Limits

@@ -1,0 +1,10 @@
+-- A field that was read keeps its limit.
+use mathlib.Core.Bool.{Bool, true}
+use Prim.Native.Nat.{ℕ}
+use lib.Dec.{leb}
+use Rattle.answers.specs.declared.input.Field.{Field}
+use Rattle.answers.specs.declared.input.Field.the-variants.{Is, Bad}
+
+unfoldable pub keeps : ℕ → Field → Bool
+keeps limit (Is n) = leb n limit
+keeps limit Bad = true
