@@ -1,16 +1,24 @@
-use borrow.Author.Needs.{needs}
-use Rattle.pass.proofs.Storing.{storing}
-use Rattle.pass.specs.Sums.{Fit, recordsOf, leaveOf, writtenOf}
+use Rattle.pass.proofs.Summing.{summing, left-few, left-fit}
+use Rattle.pass.specs.Sums.{Fit, recordsOf}
 use Rattle.pass.proofs.sums.leave.Statement.{statement}
 use Rattle.pass.proofs.sums.leave.Tie as tie
 
 pub leave-spec : {M : Type 1} → statement M
-unfolding Fit recordsOf leaveOf writtenOf
+unfolding Fit recordsOf
 leave-spec =
     tie.close (tie.spec
-    (λ c. search needs)
-    (λ c. search needs)
-    (λ c. search needs)
-    (λ c. search needs)
-    (λ c. search needs)
-    (λ c. (search storing, search storing, search storing, search storing)))
+    (λ c. search summing)
+    (λ c. search summing)
+    (λ c. search summing)
+    (λ c κs. search summing)
+    (λ c κs. search summing)
+    (λ c κs. search summing)
+    (λ c κs. search summing)
+    (λ c κs. search summing)
+    (λ c. search summing)
+    (λ c. (
+      search summing,
+      search summing,
+      (let called = c .before .before .before .before .before .before .before .before .before .before .before in left-fit _ _ _ _ (called .args .inner) (c .before .leave .result) (c .leave2 .ensures .0) (called .pre .4) (c .leave2 .ensures .1)),
+      (let called = c .before .before .before .before .before .before .before .before .before .before .before in left-few _ _ _ _ (called .args .inner) (c .before .leave .result) (c .leave2 .ensures .0)),
+    )))
