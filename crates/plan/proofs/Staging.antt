@@ -1,0 +1,174 @@
+-- Stages 1 to 7: the end of the content, its characters, its first line, the reading of its elements.
+use mathlib.Core.Path.{_≡_, refl, sym, ap, _∙_}
+use mathlib.Core.List.{List, [], _∷_}
+use mathlib.Core.Bool.{Bool, true, false, cond}
+use mathlib.Core.Option.{Option, none, some}
+use Prim.Native.Nat.{ℕ, suc, _+_, _-_, _≤_, _<_, min}
+use native.Mathlib.Omega.{arith}
+use borrow.Author.Needs.{needs}
+use lib.Dec.{eqb, leb}
+use lib.IntN.{ℤ}
+use lib.ListN.{length, take, drop, length-take}
+use Rattle.cdi.specs.Words.{given, _>>=_, begins}
+use Rattle.cdi.specs.Faults.{Fault, fault, least, Answer, accepted, refused, _andThen_, stage}
+use Rattle.cdi.specs.Text.{zeroFrom, endOf, content, badCharacter, firstLine}
+use Rattle.cdi.specs.Markup.{reading, markupFaults}
+use Rattle.cdi.specs.Tree.{Nodes, tree}
+use Rattle.cdi.specs.Planning.{ending, characters, opening, cut, markup, described}
+use Rattle.cdi.proofs.Quiet.{impossible}
+use Rattle.cdi.proofs.Tests.{both-right}
+use Rattle.cdi.proofs.Stages.{content-short}
+use Rattle.text.specs.Answers as T
+use Rattle.text.specs.declared.End.{End}
+use Rattle.text.specs.declared.End.the-variants as end
+use Rattle.text.specs.declared.Place.{Place}
+use Rattle.text.specs.declared.Place.the-variants as place
+use Rattle.text.proofs.Ends.{content-of}
+use Rattle.rules.specs.declared.Least.{Least}
+use Rattle.rules.specs.declared.Least.the-variants.{Nothing, Is}
+use Rattle.gauge.specs.declared.Leaves.{Leaves}
+use Rattle.gauge.specs.declared.Leaves.the-variants.{Never, At}
+use Rattle.pass.specs.declared.sums.State.{State}
+use Rattle.pass.specs.declared.Outcome.{Outcome}
+use Rattle.pass.specs.declared.Outcome.the-variants as outcome
+use Rattle.pass.specs.Sums.{atFirst, Fit, recordsOf}
+use Rattle.pass.specs.Folding.{Folded, folded, foldNodes}
+use Rattle.pass.specs.Answers as A
+use Rattle.plan.specs.declared.Planned.{Planned}
+use Rattle.plan.specs.declared.Planned.the-variants.{Accepted, Refused}
+use Rattle.plan.specs.Outlines.{outlined, outlineOf, ofContent, ofMarkup, ofTree, saidOf, Few, measuredBy, judgedBy, settledOf}
+use Rattle.plan.proofs.Settling.{settles}
+
+first-zero : (at : ℕ) (s : List ℕ) (e : ℕ) → zeroFrom at s ≡ some e → e < at + length s
+unfolding zeroFrom
+first-zero at [] e q = impossible (cc)
+first-zero at (x ∷ s) e q = by (eqb x 0) refl (first-zero (at + 1) s e)
+  where
+    by : (t : Bool) → eqb x 0 ≡ t → (zeroFrom (at + 1) s ≡ some e → e < at + 1 + length s) → e < at + suc (length s)
+    by true p others = let w = rw p at q in let z : at ≡ e = cc in omega arith
+    by false p others = let z = others (rw p at q) in omega arith
+
+-- ── 4 to 7 ──
+
+-- the reading of the elements, by the stage that it is
+unfoldable readBy : List ℕ → List ℤ → Option Fault → Answer Folded
+readBy c t o = stage o (foldNodes atFirst t (tree (cut c)))
+
+markedBy : (c : List ℕ) (o : Option Fault) → least (markupFaults (length c) (reading [] 0) (cut c)) ≡ o → ofMarkup c ≡ (stage o (tree (cut c)) andThen ofTree)
+unfolding ofMarkup markup ofTree
+markedBy c none e = rw e
+markedBy c (some f) e = rw e
+
+module _ (c : List ℕ) (t t′ : List ℤ) {st : State} (o : Outcome) (z : st ≡ atFirst) (a : A.answerOf o t′ ≡ A.readFrom c 22 st t) where
+  known : A.answerOf o t′ ≡ readBy c t (least (markupFaults (length c) (reading [] 0) (cut c)))
+  unfolding A.readFrom cut readBy
+  known = a ∙ ap (λ (x : State). A.readFrom c 22 x t) z
+
+  pub not-read : {n p : ℕ} → o ≡ outcome.Refused n p → saidOf (Refused n p) t′ ≡ ofMarkup c
+  unfolding saidOf A.answerOf readBy
+  not-read {n} {p} e = by (least (markupFaults (length c) (reading [] 0) (cut c))) refl (sym (ap (λ x. A.answerOf x t′) e) ∙ known)
+    where
+      by : (w : Option Fault) → least (markupFaults (length c) (reading [] 0) (cut c)) ≡ w → refused (fault n p) ≡ stage w (foldNodes atFirst t (tree (cut c))) → refused (fault n p) ≡ ofMarkup c
+      by none k x = impossible (cc)
+      by (some f) k x = let y : fault n p ≡ f = cc in ap refused y ∙ sym (markedBy c (some f) k)
+
+  pub was-read : {s : State} {r : Planned} → A.Kept o → o ≡ outcome.Read s → 32768 ≤ length t → r ≡ settledOf s → saidOf r t′ ≡ ofMarkup c
+  unfolding A.answerOf A.Kept readBy recordsOf
+  was-read {s} {r} k e l q =
+      by (least (markupFaults (length c) (reading [] 0) (cut c))) refl (sym (ap (λ x. A.answerOf x t′) e) ∙ known)
+    where
+      held : A.Kept (outcome.Read s)
+      held = rw e at k
+
+      by : (w : Option Fault) → least (markupFaults (length c) (reading [] 0) (cut c)) ≡ w → accepted (folded s t′) ≡ stage w (foldNodes atFirst t (tree (cut c))) → saidOf r t′ ≡ ofMarkup c
+      by none m x =
+          let y : folded s t′ ≡ foldNodes atFirst t (tree (cut c)) = cc in
+          ap (λ v. saidOf v t′) q ∙ settles t (tree (cut c)) s t′ y (held .1) l ∙ sym (markedBy c none m)
+      by (some f) m x = impossible (cc)
+
+-- the records of a text that was read are few
+few-measured : (l : Leaves) (n v root : ℕ) → n ≤ 4096 → Few (measuredBy l n v root)
+unfolding measuredBy Few
+few-measured Never n v root h = by (leb v 1000000)
+  where
+    by : (b : Bool) → Few (cond b (Accepted n v) (Refused 12 root))
+    by true = h
+    by false = tt
+few-measured (At p) n v root h = tt
+
+few-judged : (l : Least) (r : Planned) → Few r → Few (judgedBy l r)
+unfolding judgedBy Few
+few-judged Nothing r h = h
+few-judged (Is f) r h = tt
+
+pub few-read : {o : Outcome} {s : State} {r : Planned} → A.Kept o → o ≡ outcome.Read s → r ≡ settledOf s → Few r
+unfolding A.Kept settledOf recordsOf
+few-read {o} {s} {r} k e q = rw q (few-judged (s .judge .least) _ (few-measured (s .gauge .leaves) _ _ _ (held .1)))
+  where
+    held : A.Kept (outcome.Read s)
+    held = rw e at k
+
+pub few-refused : (n p : ℕ) → Few (Refused n p)
+unfolding Few
+few-refused n p = tt
+
+pub ruleset reading-elements = (not-read, was-read, few-read, few-refused, needs)
+
+-- ── 2 and 3 ──
+
+module _ (c : List ℕ) (t : List ℤ) {b : Place} (a : T.placeOf b ≡ badCharacter c) where
+  pub bad : {p : ℕ} → b ≡ place.At p → saidOf (Refused 2 p) t ≡ ofContent c
+  unfolding saidOf ofContent characters T.placeOf
+  bad e = rw (sym a ∙ ap T.placeOf e)
+
+  module _ {o : Bool} (e : b ≡ place.Nothing) (k : o ≡ begins firstLine c) where
+    pub opens : (r : Planned) → o ≡ true → saidOf r t ≡ ofMarkup c → saidOf r t ≡ ofContent c
+    unfolding ofContent characters opening ofMarkup T.placeOf
+    opens r f q = q ∙ rw (sym a ∙ ap T.placeOf e, sym k ∙ f)
+
+    pub opens-not : o ≡ false → saidOf (Refused 3 0) t ≡ ofContent c
+    unfolding saidOf ofContent characters opening T.placeOf
+    opens-not f = rw (sym a ∙ ap T.placeOf e, sym k ∙ f)
+
+begun-length : (w s : List ℕ) → begins w s ≡ true → length w ≤ length s
+unfolding begins
+begun-length [] s e = omega arith
+begun-length (x ∷ w) [] e = impossible (cc)
+begun-length (x ∷ w) (y ∷ s) e = let l = begun-length w s (both-right (eqb x y) _ e) in omega arith
+
+pub opening-length : {o : Bool} (c : List ℕ) → o ≡ begins firstLine c → o ≡ true → 22 ≤ length c
+unfolding firstLine
+opening-length c k f = begun-length firstLine c (sym k ∙ f)
+
+pub ruleset reading-content = (bad, opens, opens-not, opening-length, few-refused, needs)
+
+-- ── 1 ──
+
+module _ (b : List ℕ) {e : End} (a : T.endAnswer e ≡ T.ending b) where
+  pub endless : (t : List ℤ) {p : ℕ} → e ≡ end.Missing p → saidOf (Refused 1 p) t ≡ outlineOf b
+  unfolding saidOf outlineOf described T.endAnswer
+  endless t q = rw (content-of b, sym a ∙ ap T.endAnswer q)
+
+  pub ended : (t : List ℤ) {z : ℕ} (r : Planned) → e ≡ end.At z → saidOf r t ≡ ofContent (take (z - 0) (drop 0 b)) → saidOf r t ≡ outlineOf b
+  unfolding outlineOf described ofContent T.endAnswer
+  ended t {z} r q k = let l : z - 0 ≡ z = omega arith in k ∙ rw (content-of b, sym a ∙ ap T.endAnswer q, l)
+
+  found : {z : ℕ} → e ≡ end.At z → endOf b ≡ some z
+  unfolding T.ending T.endAnswer
+  found {z} q = by (endOf b) (sym a ∙ ap T.endAnswer q)
+    where
+      by : (o : Option ℕ) → given o (refused (fault 1 (min (length b) 65536))) accepted ≡ accepted z → o ≡ some z
+      by none k = cc
+      by (some x) k = cc
+
+  end-below : {z : ℕ} → e ≡ end.At z → z < length (take 65536 b)
+  unfolding endOf
+  end-below {z} q = omega (arith, first-zero 0 (take 65536 b) z (found q))
+
+  pub end-inside : {z : ℕ} → e ≡ end.At z → z ≤ length b
+  end-inside q = omega (arith, end-below q, length-take 65536 b)
+
+  pub end-early : {z : ℕ} → e ≡ end.At z → length (take (z - 0) (drop 0 b)) ≤ 65535
+  end-early {z} q = omega (arith, end-below q, length-take 65536 b, length-take (z - 0) b)
+
+pub ruleset reading-text = (endless, ended, end-inside, end-early, few-refused, needs)

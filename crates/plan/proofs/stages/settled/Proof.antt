@@ -1,0 +1,13 @@
+use borrow.Author.Needs.{needs}
+use Rattle.plan.proofs.Settling.{settling}
+use Rattle.plan.proofs.stages.settled.Statement.{statement}
+use Rattle.plan.proofs.stages.settled.Tie as tie
+
+pub settled-spec : {M : Type 1} → statement M
+settled-spec =
+    tie.close (tie.spec
+    (λ c. search needs)
+    (λ c. search needs)
+    (λ c κs. search needs)
+    (λ c. search settling)
+    (λ c. search settling))
