@@ -21,6 +21,7 @@ use Rattle.cdi.specs.Planning.{Description, describe, elements, leaving, addres
 use Rattle.cdi.proofs.Quiet.{impossible, quiet}
 use Rattle.cdi.proofs.PlanOf.{length-table}
 use Rattle.scan.proofs.Tests.{lt-or-le}
+use Rattle.rules.specs.declared.Fault.{Fault as Blame}
 use Rattle.rules.specs.declared.Judge.{Judge}
 use Rattle.rules.specs.declared.Least.{Least}
 use Rattle.rules.specs.declared.Least.the-variants.{Nothing, Is}
@@ -38,35 +39,41 @@ use Rattle.pass.specs.Folding.{Folded, folded, foldNodes}
 use Rattle.pass.proofs.Splitting.{judge-alone, gauge-alone, table-alone, root-alone}
 use Rattle.plan.specs.declared.Planned.{Planned}
 use Rattle.plan.specs.declared.Planned.the-variants.{Accepted, Refused}
-use Rattle.plan.specs.Outlines.{outline, outlined, ofTree, saidOf, measuredBy, judgedBy, settledOf}
+use Rattle.plan.specs.Outlines.{outline, outlined, ofTree, saidOf, countedBy, addressedBy, ruledBy, settledOf}
 
 -- ── the code's own ways ──
 
-module _ {l : Leaves} (n v root : ℕ) where
-  pub leaves-at : {p : ℕ} → l ≡ At p → Refused 11 p ≡ measuredBy l n v root
-  unfolding measuredBy
+module _ (n v root : ℕ) where
+  pub few-enough : v ≤ 1000000 → Accepted n v ≡ countedBy n v root
+  unfolding countedBy
+  few-enough h = rw (le-leb v 1000000 h)
+
+  pub too-many : 1000000 < v → Refused 12 root ≡ countedBy n v root
+  unfolding countedBy
+  too-many h = rw (lt-leb v 1000000 h)
+
+module _ (r : Planned) where
+  pub leaves-at : {l : Leaves} {p : ℕ} → l ≡ At p → Refused 11 p ≡ addressedBy l r
+  unfolding addressedBy
   leaves-at e = rw e
 
-  pub few-enough : l ≡ Never → v ≤ 1000000 → Accepted n v ≡ measuredBy l n v root
-  unfolding measuredBy
-  few-enough e h = rw (e, le-leb v 1000000 h)
+  pub leaves-never : {l : Leaves} → l ≡ Never → r ≡ addressedBy l r
+  unfolding addressedBy
+  leaves-never e = rw e
 
-  pub too-many : l ≡ Never → 1000000 < v → Refused 12 root ≡ measuredBy l n v root
-  unfolding measuredBy
-  too-many e h = rw (e, lt-leb v 1000000 h)
-
-pub ruleset measuring = (leaves-at, few-enough, too-many, needs)
-
-module _ (st : State) where
-  pub faulty : {n p : ℕ} → st .judge .least ≡ Is (record { number = n; place = p }) → Refused n p ≡ settledOf st
-  unfolding settledOf judgedBy
+  pub faulty : {l : Least} {f : Blame} → l ≡ Is f → Refused (f .number) (f .place) ≡ ruledBy l r
+  unfolding ruledBy
   faulty e = rw e
 
-  pub faultless : {r : Planned} → st .judge .least ≡ Nothing → r ≡ measuredBy (st .gauge .leaves) (st .gauge .records) (st .gauge .total) (st .root) → r ≡ settledOf st
-  unfolding settledOf judgedBy
-  faultless e q = rw e q
+  pub faultless : {l : Least} → l ≡ Nothing → r ≡ ruledBy l r
+  unfolding ruledBy
+  faultless e = rw e
 
-pub ruleset settling = (faulty, faultless, needs)
+pub in-order : (st : State) {a b c : Planned} → a ≡ countedBy (st .gauge .records) (st .gauge .total) (st .root) → b ≡ addressedBy (st .gauge .leaves) a → c ≡ ruledBy (st .judge .least) b → c ≡ settledOf st
+unfolding settledOf
+in-order st e f g = g ∙ ap (ruledBy (st .judge .least)) (f ∙ ap (addressedBy (st .gauge .leaves)) e)
+
+pub ruleset settling = (few-enough, too-many, leaves-at, leaves-never, faulty, faultless, in-order, needs)
 
 -- ── what the sums say of the tree ──
 
@@ -107,6 +114,9 @@ module _ (t : List ℤ) (u : Nodes) (st : State) (t′ : List ℤ) (q : folded s
 
   abbrev told : Description
   told = describe u u
+
+  abbrev last : Planned
+  last = countedBy (st .gauge .records) (st .gauge .total) (st .root)
 
   least-is : J.asFault (st .judge .least) ≡ least (elementFaults u)
   unfolding atFirst
@@ -157,19 +167,19 @@ module _ (t : List ℤ) (u : Nodes) (st : State) (t′ : List ℤ) (q : folded s
             let l : 1000000 < total (told .segments) = omega (arith, total-is) in
             ap (λ p. refused (fault 12 p)) root-is ∙ sym (counts-not told (lt-leb _ _ l))
 
-        counted : saidOf (measuredBy Never (st .gauge .records) (st .gauge .total) (st .root)) t′ ≡ (counting told andThen outlined)
+        counted : saidOf last t′ ≡ (counting told andThen outlined)
         counted = ⊎-elim
-            (λ m. ap (λ r. saidOf r t′) (sym (too-many (st .gauge .records) (st .gauge .total) (st .root) refl m)) ∙ many m)
-            (λ m. ap (λ r. saidOf r t′) (sym (few-enough (st .gauge .records) (st .gauge .total) (st .root) refl m)) ∙ enough m)
+            (λ m. ap (λ r. saidOf r t′) (sym (too-many (st .gauge .records) (st .gauge .total) (st .root) m)) ∙ many m)
+            (λ m. ap (λ r. saidOf r t′) (sym (few-enough (st .gauge .records) (st .gauge .total) (st .root) m)) ∙ enough m)
             (lt-or-le 1000000 (st .gauge .total))
 
-      measures : (l : Leaves) → st .gauge .leaves ≡ l → saidOf (measuredBy l (st .gauge .records) (st .gauge .total) (st .root)) t′ ≡ (addresses told andThen counting andThen outlined)
-      unfolding G.asFault measuredBy saidOf
+      measures : (l : Leaves) → st .gauge .leaves ≡ l → saidOf (addressedBy l last) t′ ≡ (addresses told andThen counting andThen outlined)
+      unfolding G.asFault addressedBy saidOf
       measures Never e = let k = sym leaves-are ∙ ap G.asFault e in counted k ∙ sym (keeps told k)
       measures (At p) e = sym (keeps-not told (sym leaves-are ∙ ap G.asFault e))
 
-    judges : (l : Least) → st .judge .least ≡ l → saidOf (judgedBy l (measuredBy (st .gauge .leaves) (st .gauge .records) (st .gauge .total) (st .root))) t′ ≡ ofTree u
-    unfolding J.asFault judgedBy saidOf
+    judges : (l : Least) → st .judge .least ≡ l → saidOf (ruledBy l (addressedBy (st .gauge .leaves) last)) t′ ≡ ofTree u
+    unfolding J.asFault ruledBy saidOf
     judges Nothing e =
         let k = sym least-is ∙ ap J.asFault e in
         measures (quiet (elementFaults u) k) (st .gauge .leaves) refl ∙ sym (clean u k)

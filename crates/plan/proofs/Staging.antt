@@ -36,7 +36,7 @@ use Rattle.pass.specs.Folding.{Folded, folded, foldNodes}
 use Rattle.pass.specs.Answers as A
 use Rattle.plan.specs.declared.Planned.{Planned}
 use Rattle.plan.specs.declared.Planned.the-variants.{Accepted, Refused}
-use Rattle.plan.specs.Outlines.{outlined, outlineOf, ofContent, ofMarkup, ofTree, saidOf, Few, measuredBy, judgedBy, settledOf}
+use Rattle.plan.specs.Outlines.{outlined, outlineOf, ofContent, ofMarkup, ofTree, saidOf, Few, countedBy, addressedBy, ruledBy, settledOf}
 use Rattle.plan.proofs.Settling.{settles}
 
 first-zero : (at : ℕ) (s : List ℕ) (e : ℕ) → zeroFrom at s ≡ some e → e < at + length s
@@ -87,23 +87,27 @@ module _ (c : List ℕ) (t t′ : List ℤ) {st : State} (o : Outcome) (z : st �
       by (some f) m x = impossible (cc)
 
 -- the records of a text that was read are few
-few-measured : (l : Leaves) (n v root : ℕ) → n ≤ 4096 → Few (measuredBy l n v root)
-unfolding measuredBy Few
-few-measured Never n v root h = by (leb v 1000000)
+few-counted : (n v root : ℕ) → n ≤ 4096 → Few (countedBy n v root)
+unfolding countedBy Few
+few-counted n v root h = by (leb v 1000000)
   where
     by : (b : Bool) → Few (cond b (Accepted n v) (Refused 12 root))
     by true = h
     by false = tt
-few-measured (At p) n v root h = tt
 
-few-judged : (l : Least) (r : Planned) → Few r → Few (judgedBy l r)
-unfolding judgedBy Few
-few-judged Nothing r h = h
-few-judged (Is f) r h = tt
+few-addressed : (l : Leaves) (r : Planned) → Few r → Few (addressedBy l r)
+unfolding addressedBy Few
+few-addressed Never r h = h
+few-addressed (At p) r h = tt
+
+few-ruled : (l : Least) (r : Planned) → Few r → Few (ruledBy l r)
+unfolding ruledBy Few
+few-ruled Nothing r h = h
+few-ruled (Is f) r h = tt
 
 pub few-read : {o : Outcome} {s : State} {r : Planned} → A.Kept o → o ≡ outcome.Read s → r ≡ settledOf s → Few r
 unfolding A.Kept settledOf recordsOf
-few-read {o} {s} {r} k e q = rw q (few-judged (s .judge .least) _ (few-measured (s .gauge .leaves) _ _ _ (held .1)))
+few-read {o} {s} {r} k e q = rw q (few-ruled (s .judge .least) _ (few-addressed (s .gauge .leaves) _ (few-counted _ _ _ (held .1))))
   where
     held : A.Kept (outcome.Read s)
     held = rw e at k

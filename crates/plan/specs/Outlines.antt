@@ -65,23 +65,27 @@ unfoldable pub answerOf : Planned → Answer Counts
 answerOf (Accepted n v) = accepted (record { records = n; variables = v })
 answerOf (Refused n p) = refused (fault n p)
 
--- 11, then 12
-unfoldable pub measuredBy : Leaves → ℕ → ℕ → ℕ → Planned
-measuredBy (At p) n v root = Refused 11 p
-measuredBy Never n v root = cond (leb v 1000000) (Accepted n v) (Refused 12 root)
+-- 12
+unfoldable pub countedBy : ℕ → ℕ → ℕ → Planned
+countedBy n v root = cond (leb v 1000000) (Accepted n v) (Refused 12 root)
 
--- 8 to 10 first
-unfoldable pub judgedBy : Least → Planned → Planned
-judgedBy (Is f) r = Refused (f .number) (f .place)
-judgedBy Nothing r = r
+-- 11, or else what comes next
+unfoldable pub addressedBy : Leaves → Planned → Planned
+addressedBy (At p) r = Refused 11 p
+addressedBy Never r = r
+
+-- 8 to 10, or else what comes next
+unfoldable pub ruledBy : Least → Planned → Planned
+ruledBy (Is f) r = Refused (f .number) (f .place)
+ruledBy Nothing r = r
 
 unfoldable pub settledOf : State → Planned
-settledOf st = judgedBy (st .judge .least) (measuredBy (st .gauge .leaves) (st .gauge .records) (st .gauge .total) (st .root))
+settledOf st = ruledBy (st .judge .least) (addressedBy (st .gauge .leaves) (countedBy (st .gauge .records) (st .gauge .total) (st .root)))
 
 -- 13, by the table's length
 unfoldable pub putOf : ℕ → ℕ → ℕ → Planned
 putOf n v l = cond (leb (8 * n) l) (Accepted n v) (Refused 13 0)
 
 unfoldable pub outlines-page : Unit {0}
-unfolding outlined outlineOf ofContent ofMarkup ofTree saidOf Few answerOf measuredBy judgedBy settledOf putOf
+unfolding outlined outlineOf ofContent ofMarkup ofTree saidOf Few answerOf countedBy addressedBy ruledBy settledOf putOf
 outlines-page = tt

@@ -3,7 +3,7 @@
 ghost use mathlib.Core.Path.{_≡_};
 ghost use Prim.Native.Nat.{_≤_};
 ghost use lib.ListN.{length};
-ghost use Rattle.plan.specs.Outlines.{ofContent, ofMarkup, saidOf, Few, measuredBy, settledOf};
+ghost use Rattle.plan.specs.Outlines.{ofContent, ofMarkup, saidOf, Few, countedBy, addressedBy, ruledBy, settledOf};
 use crate::Planned;
 use gauge::Leaves;
 use pass::Outcome;
@@ -20,21 +20,39 @@ const OPENING: usize = 22;
 
 const MOST_VARIABLES: u64 = 1000000;
 
-// Stages 11 and 12: addresses, then the count of variables.
-fn measured(leaves: Leaves, records: usize, variables: u64, root: usize) -> Planned
-    ensures { λ r. ⌜ r ≡ measuredBy leaves records variables root ⌝ }
+// Stage 12: the count of variables.
+fn counted(records: usize, variables: u64, root: usize) -> Planned
+    ensures { λ r. ⌜ r ≡ countedBy records variables root ⌝ }
 {
-    match leaves {
-        Leaves::At(place) => Planned::Refused { number: 11, place },
-        Leaves::Never => {
-            if variables <= MOST_VARIABLES {
-                return Planned::Accepted { records, variables };
-            }
-            Planned::Refused {
-                number: 12,
-                place: root,
-            }
-        }
+    if variables <= MOST_VARIABLES {
+        return Planned::Accepted { records, variables };
+    }
+    Planned::Refused {
+        number: 12,
+        place: root,
+    }
+}
+
+// Stage 11: addresses, or else what comes next.
+fn addressed(leaves: Leaves, next: Planned) -> Planned
+    ensures { λ r. ⌜ r ≡ addressedBy leaves next ⌝ }
+{
+    let Leaves::At(place) = leaves else {
+        return next;
+    };
+    Planned::Refused { number: 11, place }
+}
+
+// Stages 8 to 10: the least fault against the table of elements, or else what comes next.
+fn ruled(least: Least, next: Planned) -> Planned
+    ensures { λ r. ⌜ r ≡ ruledBy least next ⌝ }
+{
+    let Least::Is(f) = least else {
+        return next;
+    };
+    Planned::Refused {
+        number: f.number as usize,
+        place: f.place,
     }
 }
 
@@ -43,18 +61,12 @@ fn settled(st: State) -> Planned
     ensures { λ r. ⌜ r ≡ settledOf st ⌝ }
 {
     let judge = st.judge;
+    let gauge = st.gauge;
     let least = judge.least;
-    match least {
-        Least::Is(f) => Planned::Refused {
-            number: f.number as usize,
-            place: f.place,
-        },
-        Least::Nothing => {
-            let gauge = st.gauge;
-            let leaves = gauge.leaves;
-            measured(leaves, gauge.records, gauge.total, st.root)
-        }
-    }
+    let leaves = gauge.leaves;
+    let last = counted(gauge.records, gauge.total, st.root);
+    let next = addressed(leaves, last);
+    ruled(least, next)
 }
 
 // Stages 4 to 12, of content that begins with the first line.

@@ -6,8 +6,7 @@ use Rattle.plan.proofs.stages.settled.Tie as tie
 pub settled-spec : {M : Type 1} → statement M
 settled-spec =
     tie.close (tie.spec
-    (λ c. search needs)
-    (λ c. search needs)
     (λ c κs. search needs)
-    (λ c. search settling)
+    (λ c κs. search needs)
+    (λ c κs. search needs)
     (λ c. search settling))
