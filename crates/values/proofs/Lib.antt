@@ -1,0 +1,4 @@
+pub mod Numbering
+pub mod Complements
+pub mod Padding
+pub mod Once
