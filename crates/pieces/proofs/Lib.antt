@@ -1,7 +1,7 @@
 pub mod Finding
 pub mod Attributing
 pub mod Walking
-pub mod Keying
+pub mod Sorting
 pub mod Numbering
 pub mod Making
 pub mod Reading

@@ -1,4 +1,4 @@
 pub mod Places
 pub mod Characters
 pub mod Cuts
-pub mod Keys
+pub mod Orders

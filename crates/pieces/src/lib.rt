@@ -13,7 +13,7 @@ ghost use Rattle.pieces.specs.Cuts.{Cuts, Stands};
 pub mod names; // where a name ends
 pub mod characters; // characters by their numbers
 pub mod attributes; // the attributes of a tag
-mod keys; // numbers for names
+mod sorted; // names in order
 mod cuts; // cuts without name and text
 mod marks; // comments, instructions, runs of text
 mod tags; // start tags and end tags
