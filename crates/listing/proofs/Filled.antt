@@ -20,7 +20,7 @@ use Rattle.locate.specs.Finding.{Site, movedBy, eachOf, copyOf}
 use Rattle.locate.specs.declared.inside.Copied.{Copied}
 use Rattle.locate.proofs.Elements.{items-sound}
 use Rattle.locate.proofs.Copies.{startsAt, copy-starts}
-use Rattle.locate.proofs.Ways.{group-steps, variable-steps, Seeking, start as seeks, en, start-is, is-group, copies-fit, each-one, some, below, starts, numbers, address-high as ways-high, start-low as ways-start, chosen as ways-chosen}
+use Rattle.locate.proofs.Ways.{group-steps, variable-steps, Seeking, start as seeks, en, start-is, is-group, copies-fit, each-one, some, below, starts, numbers, address-high as ways-high, start-low as ways-start, start-high as ways-far, chosen as ways-chosen}
 use Rattle.locate.specs.Finding.{Chosen}
 use Rattle.listing.specs.Filling.{foundAt, put, Filling, filling, one, fill, met, copiesMet, elementMet, Copying}
 use Rattle.listing.proofs.Batches.{met-append, length-met, fill-append, fill-skip}
@@ -81,6 +81,9 @@ module _ (t : List ℤ) (space i e a left room k : ℕ) (o : List ℕ) (b : i < 
 
   pub element-low : natural (negℤ (field t i 2)) ≤ a
   element-low = ways-start v b
+
+  pub element-far : natural (field t i 2) ≤ 2 ^ 32
+  element-far = ways-far v b
 
   pub element-next-first : i < natural (field t i 5)
   element-next-first = en v b .range .ahead
@@ -206,6 +209,6 @@ module _ (t : List ℤ) (i : ℕ) {n : ℕ} (e : n ≡ eachOf t i) where
 
 pub ruleset copies-behind = (from-some, from-low, from-is, needs)
 
-pub ruleset element-needs = (element-high, element-low, element-next-first, element-next-last, element-replication, group-chosen, group-each, group-copy, group-copying, needs)
+pub ruleset element-needs = (element-high, element-low, element-far, element-next-first, element-next-last, element-replication, group-chosen, group-each, group-copy, group-copying, needs)
 
 pub ruleset element-fills = (variable-filled, variable-out, group-filled, group-out, needs)

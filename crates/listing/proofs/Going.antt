@@ -20,7 +20,7 @@ use Rattle.locate.specs.Judging.{elementExtent, goodIn, itemsExtent}
 use Rattle.locate.specs.Finding.{Site, movedBy}
 use Rattle.locate.proofs.Subtrees.{items-out, Same, same-steps, good-following}
 use Rattle.locate.proofs.Elements.{element-sound, element-extent, items-sound}
-use Rattle.locate.proofs.Ways.{Entry, entry, Seeking, start as seeks, change-is, address-high as ways-high, change-low as ways-low}
+use Rattle.locate.proofs.Ways.{Entry, entry, Seeking, start as seeks, change-is, address-high as ways-high, change-low as ways-low, change-high as ways-far}
 use Rattle.listing.specs.Batch.{numbersOf}
 use Rattle.listing.specs.Filling.{put, Filling, filling, one, fill, met, copiesMet, elementMet, Copying}
 use Rattle.listing.proofs.Batches.{met-append, length-met, fill-append, fill-skip, fill-left, full-filled, full-out}
@@ -228,6 +228,9 @@ module _ {t : List ℤ} {space from end origin r skip room filled i a again left
       pub going-low : natural (negℤ (field t i 7)) ≤ a
       going-low = ways-low seeking b
 
+      pub going-far : natural (field t i 7) ≤ 2 ^ 32
+      going-far = ways-far seeking b
+
       pub going-first : i < natural (field t i 5)
       going-first = here .range .ahead
 
@@ -286,4 +289,4 @@ pub ruleset going = (begin, long-same, kept-k, done-filled, done-out, full-k, fu
 
 pub ruleset going-less = (copy-less, needs)
 
-pub ruleset going-needs = (site, going-high, going-low, going-first, going-last, needs)
+pub ruleset going-needs = (site, going-high, going-low, going-far, going-first, going-last, needs)

@@ -1,13 +1,20 @@
 -- The numbers of one copy, as the code makes them.
-use mathlib.Core.Path.{_≡_, refl, sym}
+use mathlib.Core.Path.{_≡_, refl, sym, ap, _∙_}
 use mathlib.Core.List.{List}
 use Prim.Native.Nat.{ℕ, zero, suc, _+_, _-_, _*_, _/_, _%_, _^_, _≤_, _<_}
 use native.Mathlib.Omega.{arith}
 use borrow.Author.Needs.{needs}
 use borrow.Author.Tests.{le-leb, lt-leb}
-use lib.IntN.{ℤ, pos, negsuc, negℤ}
+use lib.Dec.{T}
+use lib.IntN.{ℤ, pos, negsuc, negℤ, natAbs, _+ℤ_}
+use lib.Signed.{nonNeg}
+use mir.Syntax.{w64}
+use mir.Val.{SFits, Fits, toZ}
+use mir.ValLaws.{toZ-pos}
 use Rattle.cdi.specs.Rules.{natural}
 use Rattle.cdi.specs.Plans.{field}
+use Rattle.cdi.proofs.Signs.{up, down, sum, up-same}
+use Rattle.extent.proofs.Signed.{read, read-is, rise-up, fall-down}
 use Rattle.locate.specs.Finding.{movedBy, allRise, allFall, eachOf, copyAt, copyOf, Chosen}
 use Rattle.locate.specs.declared.inside.Copied.{Copied}
 
@@ -18,14 +25,36 @@ one-sided (pos zero) h = refl
 one-sided (pos (suc n)) h = absurd (omega arith)
 one-sided (negsuc n) h = refl
 
-module _ (t : List ℤ) (i f a : ℕ) {d : ℕ} (ed : d ≡ natural (negℤ (field t i f))) where
-  pub moved-down : 0 < d → a - d ≡ movedBy t i f a
-  unfolding movedBy
-  moved-down h = rw ed (omega (arith, one-sided (field t i f) (rw ed at h)))
+-- an address and a signed number are one address
+stands : (a : ℕ) (z : ℤ) → natural (negℤ z) ≤ a → pos a +ℤ z ≡ pos (a + natural z - natural (negℤ z))
+unfolding up down
+stands a z h = up-same (pos a +ℤ z) (pos (a + natural z - natural (negℤ z))) (omega (arith, sum (pos a) z, rise-up z, fall-down z))
 
-  pub moved-up : d ≤ 0 → {u : ℕ} → u ≡ natural (field t i f) → a + u ≡ movedBy t i f a
+module _ (t : List ℤ) (i f a : ℕ) {z : ℤ} (g : SFits w64 z) (e : z ≡ field t i f) (b : a ≤ 2 ^ 32) (l : natural (negℤ (field t i f)) ≤ a) (u : natural (field t i f) ≤ 2 ^ 32) where
+  small : movedBy t i f a < 2 ^ 63
   unfolding movedBy
-  moved-up h eu = omega arith
+  small = omega arith
+
+  sum-is : toZ w64 a +ℤ read z ≡ pos (movedBy t i f a)
+  unfolding movedBy
+  sum-is = rw (toZ-pos w64 a (omega arith), read-is z g, e) (stands a (field t i f) l)
+
+  pub moved-fits : SFits w64 (toZ w64 a +ℤ read z)
+  moved-fits = rw sum-is (record { sfits = small })
+
+  sum-read : read (toZ w64 a +ℤ read z) ≡ pos (movedBy t i f a)
+  sum-read = read-is (toZ w64 a +ℤ read z) moved-fits ∙ sum-is
+
+  pub moved-sign : T (nonNeg (read (toZ w64 a +ℤ read z)))
+  moved-sign = rw sum-read tt
+
+  pub moved-size : Fits w64 (natAbs (read (toZ w64 a +ℤ read z)))
+  moved-size = rw sum-read (record { fits = omega (arith, small) })
+
+  pub moved-is : natAbs (read (toZ w64 a +ℤ read z)) ≡ movedBy t i f a
+  moved-is = ap natAbs sum-read
+
+pub ruleset moving = (moved-fits, moved-sign, moved-size, moved-is, needs)
 
 pub all-rise-is : (t : List ℤ) (i : ℕ) {u d : ℕ} → u ≡ natural (field t i 7) → d ≡ natural (negℤ (field t i 2)) → u + d ≡ allRise t i
 unfolding allRise
@@ -61,7 +90,7 @@ module _ (t : List ℤ) (i a q : ℕ) {u d r : ℕ} (eu : u ≡ allRise t i) (ed
   pub fall-below : q * ((allFall t i - allRise t i) / natural (field t i 4)) ≤ a → q * ((d - u) / r) ≤ a
   fall-below h = rw (← eu, ← ed, ← er) at h
 
-pub ruleset copying = (moved-down, moved-up, all-rise-is, all-fall-is, each-is, copy-up, copy-down, rise-fits, sum-fits, fall-fits, fall-below, needs)
+pub ruleset copying = (all-rise-is, all-fall-is, each-is, copy-up, copy-down, rise-fits, sum-fits, fall-fits, fall-below, needs)
 
 pub copy-of-is : (t : List ℤ) (i a n : ℕ) {k s : ℕ} → k ≡ eachOf t i → s ≡ copyAt t i a (n / k) → _≡_ {A = Copied} (record { start = s; number = n % k }) (copyOf t i a n)
 unfolding copyOf

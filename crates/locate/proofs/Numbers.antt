@@ -2,14 +2,15 @@
 use mathlib.Core.Path.{_≡_, refl, sym, ap, _∙_}
 use mathlib.Core.List.{List, [], _∷_}
 use mathlib.Core.Bool.{Bool, true, false, not, _&&_, _||_, false≢true}
-use Prim.Native.Nat.{ℕ, zero, suc, _≤_, _<_}
+use Prim.Native.Nat.{ℕ, zero, suc, _^_, _≤_, _<_}
 use native.Mathlib.Omega.{arith}
 use borrow.Author.Needs.{needs}
-use borrow.Author.Tests.{le-leb, lt-leb, leb-true}
-use lib.Dec.{eqb, leb}
-use lib.IntN.{ℤ, pos, negsuc, negℤ}
+use borrow.Author.Tests.{le-ltb, le-leb, lt-leb, leb-true}
+use lib.Dec.{T, eqb, leb}
+use lib.IntN.{ℤ, pos, negsuc, negℤ, natAbs}
+use lib.Signed.{ltZ, nonNeg}
 use mir.Syntax.{w64}
-use mir.Val.{SFits}
+use mir.Val.{SFits, Fits}
 use Rattle.cdi.specs.Words.{any}
 use Rattle.cdi.specs.Numbers.{within}
 use Rattle.cdi.specs.Rules.{natural}
@@ -17,7 +18,7 @@ use Rattle.cdi.specs.Table.{sameNumber}
 use Rattle.cdi.specs.Plans.{field, oneOf, offsetFits}
 use Rattle.cdi.proofs.Tests.{ends, both, both-left}
 use Rattle.cdi.proofs.Signs.{same-number}
-use Rattle.extent.proofs.Signed.{read, read-is}
+use Rattle.extent.proofs.Signed.{read, read-is, casts, rises}
 use Rattle.extent.proofs.Reached.{iff}
 
 -- what `if !test` tells
@@ -41,6 +42,43 @@ module _ (t : List ℤ) (i f : ℕ) {z : ℤ} {r : ℕ} (g : SFits w64 z) (e : z
   fall-read h = h ∙ rw (read-is z g, e)
 
 pub ruleset reading = (rise-read, fall-read, needs)
+
+-- ── read without a test of the sign ──
+
+not-below : (z : ℤ) → natural (negℤ z) ≤ 0 → ltZ z (pos 0) ≡ false
+unfolding natural
+not-below (pos n) h = le-ltb n 0 (omega arith)
+not-below (negsuc n) h = absurd (omega arith)
+
+module _ (t : List ℤ) (i f : ℕ) {z : ℤ} (g : SFits w64 z) (e : z ≡ field t i f) (h : natural (negℤ (field t i f)) ≤ 0) where
+  above : ltZ (read z) (pos 0) ≡ false
+  above = rw (read-is z g, e) (not-below (field t i f) h)
+
+  pub plain-sign : T (nonNeg (read z))
+  plain-sign = casts z g above .0
+
+  pub plain-size : Fits w64 (natAbs (read z))
+  plain-size = casts z g above .1
+
+  pub plain-read : natAbs (read z) ≡ natural (field t i f)
+  plain-read = rises z g above .0 ∙ ap natural e
+
+  pub plain-most : natAbs (read z) < 2 ^ 63
+  plain-most = rises z g above .1
+
+pub ruleset plainly = (plain-sign, plain-size, plain-read, plain-most, needs)
+
+-- a number above another is none below zero
+above-zero : (z : ℤ) {m : ℕ} → m < natural z → natural (negℤ z) ≤ 0
+unfolding natural
+above-zero (pos zero) h = omega arith
+above-zero (pos (suc n)) h = omega arith
+above-zero (negsuc n) h = absurd (omega arith)
+
+pub raised : (t : List ℤ) (i f : ℕ) {m : ℕ} → m < natural (field t i f) → natural (negℤ (field t i f)) ≤ 0
+raised t i f h = above-zero (field t i f) h
+
+pub ruleset raising = (raised, needs)
 
 -- ── from one number to another ──
 

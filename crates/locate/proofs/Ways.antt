@@ -10,7 +10,7 @@ use borrow.Author.Needs.{needs}
 use borrow.Author.Tests.{eq-eqb, ne-eqb}
 use lib.ListN.{length, getD, List·getD-append, length-map}
 use lib.Seq.{getD-append-add}
-use lib.IntN.{ℤ, pos, negℤ, _+ℤ_}
+use lib.IntN.{ℤ, pos, negsuc, negℤ, _+ℤ_}
 use Rattle.cdi.specs.Faults.{Answer, fault}
 use Rattle.cdi.specs.Faults.Answer.{refused}
 use Rattle.cdi.specs.Rules.{natural}
@@ -269,6 +269,12 @@ module _ {t : List ℤ} {space from end origin n i a left : ℕ} (v : Seeking t 
         by zero e = omega arith
         by (suc d) e = omega (arith, one-sided z (omega arith), rise-up z, fall-down z)
 
+    -- nor above the last
+    high-enough : (z : ℤ) → up z ≤ 2 ^ 32 + down z → natural z ≤ 2 ^ 32
+    unfolding up down
+    high-enough (pos n) h = omega (arith, rise-up (pos n))
+    high-enough (negsuc n) h = omega (arith, rise-up (negsuc n))
+
     pub change-low : natural (negℤ (field t i 7)) ≤ a
     change-low = low-enough (field t i 7) (omega (arith, en .fits, en .moves))
 
@@ -278,6 +284,13 @@ module _ {t : List ℤ} {space from end origin n i a left : ℕ} (v : Seeking t 
 
     pub start-low : natural (negℤ (field t i 2)) ≤ a
     start-low = rw (← (by-offset (field t i 2))) at offset-low
+
+    pub change-high : natural (field t i 7) ≤ 2 ^ 32
+    change-high = high-enough (field t i 7) (omega (arith, en .fits, en .moves, element-sound t i E (items-sound t (i + 1) x)))
+
+    pub start-high : natural (field t i 2) ≤ 2 ^ 32
+    unfolding elementExtent join
+    start-high = high-enough (field t i 2) (omega (arith, en .fits, offset-moves (field t i 2), offset-sound (field t i 2)))
 
     pub next-first : i < natural (field t i 5)
     next-first = en .range .ahead
@@ -404,4 +417,4 @@ module _ {t : List ℤ} {space from end origin n i a left : ℕ} (v : Seeking t 
 
 pub ruleset seeking = (start, nowhere, pass, variable-is, chosen-is, needs)
 
-pub ruleset stepping = (address-high, change-low, start-low, next-first, next-last, chosen, chosen-site, needs)
+pub ruleset stepping = (address-high, change-low, start-low, change-high, start-high, next-first, next-last, chosen, chosen-site, needs)

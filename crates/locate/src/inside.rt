@@ -10,6 +10,8 @@ use crate::table::NEXT;
 use crate::table::REPLICATION;
 use crate::table::START;
 use crate::table::fall_at;
+use crate::table::field;
+use crate::table::natural_at;
 use crate::table::rise_at;
 ghost use mathlib.Core.Path.{_≡_};
 ghost use Prim.Native.Nat.{_≤_, _<_, _+_, _-_, _*_, _/_, _^_};
@@ -27,14 +29,12 @@ pub struct Copied {
 
 // The address changed by number `which` of record `i`.
 pub fn moved_by(table: &[i64], i: usize, which: usize, address: u64) -> u64
-    requires { ⌜ (i * 8 + 8 ≤ length (now table)) × (which < 8) × (address ≤ 2 ^ 32) × (natural (negℤ (field (now table) i which)) ≤ address) ⌝ }
+    requires { ⌜ (i * 8 + 8 ≤ length (now table)) × (which < 8) × (address ≤ 2 ^ 32) × (natural (negℤ (field (now table) i which)) ≤ address)
+        × (natural (field (now table) i which) ≤ 2 ^ 32) ⌝ }
     ensures { λ r. ⌜ r ≡ movedBy (now (table .entry)) i which address ⌝ }
 {
-    let down = fall_at(table, i, which);
-    if 0 < down {
-        return address - down;
-    }
-    address + rise_at(table, i, which)
+    let by = field(table, i, which);
+    (address as i64 + by) as u64
 }
 
 // What all copies of group `i` rise by together, before what they fall by is taken off: its change less its own offset.
@@ -101,7 +101,7 @@ pub fn next_record(table: &[i64], i: usize, end: usize) -> usize
     requires { ⌜ (i * 8 + 8 ≤ length (now table)) × (i < natural (field (now table) i 5)) × (natural (field (now table) i 5) ≤ end) ⌝ }
     ensures { λ r. ⌜ (r ≡ natural (field (now (table .entry)) i 5)) × (i < r) × (r ≤ end) ⌝ }
 {
-    rise_at(table, i, NEXT) as usize
+    natural_at(table, i, NEXT) as usize
 }
 
 // Variable `n` of the data elements from record `from` to before `end`, walked from `origin`.

@@ -44,6 +44,14 @@ pub fn rise_at(table: &[i64], i: usize, which: usize) -> u64
     rise(field(table, i, which))
 }
 
+// The same where it is known not to be negative, so that its sign isn't tested.
+pub fn natural_at(table: &[i64], i: usize, which: usize) -> u64
+    requires { ⌜ (i * 8 + 8 ≤ length (now table)) × (which < 8) × (natural (negℤ (field (now table) i which)) ≤ 0) ⌝ }
+    ensures { λ r. ⌜ (r ≡ natural (field (now (table .entry)) i which)) × (r < 2 ^ 63) ⌝ }
+{
+    field(table, i, which) as u64
+}
+
 // What it takes away where it is negative, else 0.
 pub fn fall_at(table: &[i64], i: usize, which: usize) -> u64
     requires { ⌜ (i * 8 + 8 ≤ length (now table)) × (which < 8) ⌝ }

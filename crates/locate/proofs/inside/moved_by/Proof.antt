@@ -1,5 +1,5 @@
 use borrow.Author.Needs.{needs}
-use Rattle.locate.proofs.Dividing.{copying}
+use Rattle.locate.proofs.Dividing.{moving}
 use Rattle.locate.proofs.inside.moved_by.Statement.{statement}
 use Rattle.locate.proofs.inside.moved_by.Tie as tie
 
@@ -8,7 +8,6 @@ moved-by-spec =
     tie.close (tie.spec
     (λ c κs. search needs)
     (λ c. search needs)
-    (λ c. search copying)
-    (λ c κs. search needs)
-    (λ c. search needs)
-    (λ c. search copying))
+    (λ c. search moving)
+    (λ c. search moving)
+    (λ c. search moving))
