@@ -61,8 +61,8 @@ unfolding fill one
 fill-one room k o f h = rw (lt-ltb k room h)
 
 module _ (t : List ℤ) (space i e a left room k : ℕ) (o : List ℕ) (b : i < e) (st : Site t i e a) (h : left < natural (field t i 6)) where
-  v : Seeking t space i e a left i a left
-  v = seeks t space i e a left (omega arith) st
+  v : Seeking t i e a left i a left
+  v = seeks t i e a left (omega arith) st
 
   abbrev M : Items
   M = itemsIn t (i + 1) (nextOf t i)
@@ -99,7 +99,7 @@ module _ (t : List ℤ) (space i e a left room k : ℕ) (o : List ℕ) (b : i < 
     variable-met : (kind ≡ 2 → ⊥) → (elementMet t space i a ≡ foundAt i space s (natural (field t i 3)) kind ∷ []) × (left ≡ 0)
     unfolding elementMet met variables found count natural
     variable-met z = (
-      rw (variable-steps t i M other, start-is v b refl refl h es ek, ek),
+      rw (variable-steps t i M other, start-is v b refl h es ek, ek),
       omega (arith, en v b .counts, ap count (variable-steps t i M other)),
     )
       where
@@ -119,17 +119,17 @@ module _ (t : List ℤ) (space i e a left room k : ℕ) (o : List ℕ) (b : i < 
     -- a group
     module _ (z : kind ≡ 2) where
       pub group-chosen : Chosen t i s left
-      group-chosen = ways-chosen v b refl refl h es ek z
+      group-chosen = ways-chosen v b refl h es ek z
 
       each-is : natural (field t i 6) / natural (field t i 4) ≡ K
       unfolding eachOf
-      each-is = each-one v b refl refl h es ek z
+      each-is = each-one v b refl h es ek z
 
       pub group-each : 1 ≤ natural (field t i 6) / natural (field t i 4)
-      group-each = rw each-is (some v b refl refl h es ek z)
+      group-each = rw each-is (some v b refl h es ek z)
 
       in-copies : left / K < natural (field t i 4)
-      in-copies = below v b refl refl h es ek z
+      in-copies = below v b refl h es ek z
 
       pub group-copy : left / (natural (field t i 6) / natural (field t i 4)) ≤ natural (field t i 4)
       group-copy = rw each-is (omega (arith, in-copies))
@@ -144,15 +144,15 @@ module _ (t : List ℤ) (space i e a left room k : ℕ) (o : List ℕ) (b : i < 
           depth = v .depth + 1;
           good = en v b .inner;
           keeps = of-fits (ch .start) (repeat (natural (field t i 4) - left / K) E)
-              (rw (starts v b refl refl h es ek z ec) (later-fits s (natural (field t i 4)) (left / K) E (items-sound t (i + 1) (nextOf t i)) (copies-fit v b refl refl h es ek z) in-copies));
+              (rw (starts v b refl h es ek z ec) (later-fits s (natural (field t i 4)) (left / K) E (items-sound t (i + 1) (nextOf t i)) (copies-fit v b refl h es ek z) in-copies));
         })
 
         -- the copies before are skipped
         group-met : {x : ℕ} → x ≡ natural (field t i 5) → fill room (filling left k o) (elementMet t space i a) ≡ fill room (filling (ch .number) k o) (copiesMet t space (i + 1) x (ch .start) n)
         unfolding elementMet copiesMet met variables copyStart itemsExtent
         group-met ex =
-            ap (λ (l : List Step). fill room (filling left k o) (met space (pos a) l)) (group-steps t i M (is-group v b refl refl h es ek z))
-            ∙ ap (λ (y : ℤ). fill room (filling left k o) (met space y (copies (natural (field t i 4)) S))) (start-is v b refl refl h es ek)
+            ap (λ (l : List Step). fill room (filling left k o) (met space (pos a) l)) (group-steps t i M (is-group v b refl h es ek z))
+            ∙ ap (λ (y : ℤ). fill room (filling left k o) (met space y (copies (natural (field t i 4)) S))) (start-is v b refl h es ek)
             ∙ ap (λ (l : List Step). fill room (filling left k o) (met space (pos s) l)) (copies-split q (natural (field t i 4)) S (omega (arith, in-copies)))
             ∙ ap (λ (l : List Found). fill room (filling left k o) l) (met-append space (pos s) (copies q S) rest)
             ∙ fill-append room (filling left k o) (met space (pos s) (copies q S)) (met space (pos s +ℤ change (copies q S)) rest)
@@ -177,13 +177,13 @@ module _ (t : List ℤ) (space i e a left room k : ℕ) (o : List ℕ) (b : i < 
             counted = mod-add-div' left K
 
             left-over : left - length (met space (pos s) (copies q S)) ≡ ch .number
-            left-over = omega (arith, skipped, counted, numbers v b refl refl h es ek z ec)
+            left-over = omega (arith, skipped, counted, numbers v b refl h es ek z ec)
 
             there : pos s +ℤ change (copies q S) ≡ pos (ch .start)
             there =
                 ap (λ (y : ℤ). pos s +ℤ y) (change-copies q S)
-                ∙ copy-starts s (natural (field t i 4)) q E (items-sound t (i + 1) (nextOf t i)) (copies-fit v b refl refl h es ek z) in-copies (change S) (extent-change S)
-                ∙ ap pos (sym (starts v b refl refl h es ek z ec))
+                ∙ copy-starts s (natural (field t i 4)) q E (items-sound t (i + 1) (nextOf t i)) (copies-fit v b refl h es ek z) in-copies (change S) (extent-change S)
+                ∙ ap pos (sym (starts v b refl h es ek z ec))
 
         pub group-filled : {x : ℕ} → x ≡ natural (field t i 5) → {n′ : ℕ} → n′ ≡ fill room (filling (ch .number) k o) (copiesMet t space (i + 1) x (ch .start) n) .filled
             → n′ ≡ fill room (filling left k o) (elementMet t space i a) .filled

@@ -219,8 +219,8 @@ module _ {t : List ℤ} {space from end origin r skip room filled i a again left
           same : Same t (v .enough) (end - i) (v .depth) i end
           same = same-steps t (v .enough) (end - i) (v .depth) i end (v .spare) (omega arith)
 
-      seeking : Seeking t space i end a left i a left
-      seeking = seeks t space i end a left (omega arith) site
+      seeking : Seeking t i end a left i a left
+      seeking = seeks t i end a left (omega arith) site
 
       pub going-high : a ≤ 2 ^ 32
       going-high = ways-high seeking b

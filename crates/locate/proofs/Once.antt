@@ -4,14 +4,16 @@ use mathlib.Core.List.{List}
 use mathlib.Core.Bool.{Bool}
 use Prim.Native.Nat.{ℕ}
 use native.Mathlib.Omega.{arith}
+use native.Mathlib.Decide.{ℕ-discrete}
 use lib.IntN.{ℤ}
 use Rattle.cdi.specs.Faults.{Answer, Fault}
 use Rattle.cdi.specs.Faults.Answer.{accepted, refused}
 use Rattle.cdi.specs.Walk.{Found}
 use Rattle.cdi.specs.Plans.{segmentsOf, isPlan, variableOf, locating}
-use Rattle.locate.specs.Finding.{toldOf, insideOf}
+use Rattle.locate.specs.Finding.{toldOf, standing, Finds}
 use Rattle.locate.specs.declared.Located.{Located}
 use Rattle.locate.specs.declared.Located.the-variants.{Variable as At, NotAPlan, NoVariable}
+use Rattle.locate.proofs.Segments.{told-none, told-is}
 
 -- a contract that is an equation allows one answer: so for every function of the modules `table`, `ranges` and `inside` but `find_in`
 pub once : {A : Type 0} {x y z : A} → x ≡ z → y ≡ z → x ≡ y
@@ -58,5 +60,17 @@ find-once t n r s p q = one-case r s (once p q)
 pub locate-once : (t : List ℤ) (n : ℕ) (r s : Located) → toldOf r ≡ locating t n → toldOf s ≡ locating t n → r ≡ s
 locate-once t n r s p q = one-case r s (once p q)
 
-pub find-in-once : (t : List ℤ) (space i e a n : ℕ) (r s : Located) → toldOf r ≡ insideOf t space i e a n → toldOf s ≡ insideOf t space i e a n → r ≡ s
-find-in-once t space i e a n r s p q = one-case r s (once p q)
+pub find-in-once : (t : List ℤ) (i e a n r s : ℕ) → Finds t i e a n r → Finds t i e a n s → r ≡ s
+unfolding toldOf
+find-in-once t i e a n r s p q = by (ℕ-discrete r 18446744073709551615) (ℕ-discrete s 18446744073709551615)
+  where
+    same : standing t 0 r ≡ standing t 0 s
+    same = once (p .same 0) (q .same 0)
+
+    by : Dec (r ≡ 18446744073709551615) → Dec (s ≡ 18446744073709551615) → r ≡ s
+    by (yes x) (yes y) = once x y
+    by (yes x) (no y) = absurd (apart _ _ (told-is y t 0 refl refl ∙ sym same ∙ sym (told-none t 0 x)))
+    by (no x) (yes y) = absurd (apart _ _ (told-is x t 0 refl refl ∙ same ∙ sym (told-none t 0 y)))
+    by (no x) (no y) =
+        let f = same-found _ _ (told-is x t 0 refl refl ∙ same ∙ sym (told-is y t 0 refl refl)) in
+        omega (arith, ap (λ (z : Found). z .number) f, ap (λ (z : Found). z .address) f)

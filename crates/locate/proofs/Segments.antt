@@ -5,7 +5,7 @@ use mathlib.Core.Bool.{Bool, true, false, _&&_}
 use Prim.Native.Nat.{ℕ, suc, pred, _+_, _-_, _*_, _/_, _%_, _≤_, _<_}
 use native.Mathlib.Omega.{arith}
 use borrow.Author.Needs.{needs}
-use borrow.Author.Tests.{leb-true}
+use borrow.Author.Tests.{leb-true, eq-eqb, ne-eqb}
 use lib.Dec.{leb, eqb}
 use lib.ListN.{length, getD, List·getD-append}
 use lib.Seq.{getD-append-add}
@@ -19,9 +19,9 @@ use Rattle.cdi.specs.Plans.{field, extraOf, nextOf, segmentFits, told, itemsIn,
 use Rattle.cdi.proofs.Tests.{parts, both-left, both-right}
 use Rattle.cdi.proofs.Signs.{same-number}
 use Rattle.locate.specs.Judging.{goodIn}
-use Rattle.locate.specs.Finding.{toldOf, answer, insideOf, Site}
+use Rattle.locate.specs.Finding.{toldOf, answer, insideOf, standing, Finds, Site}
 use Rattle.locate.specs.declared.Located.{Located}
-use Rattle.locate.specs.declared.Located.the-variants.{NotAPlan, NoVariable}
+use Rattle.locate.specs.declared.Located.the-variants.{Variable as At, NotAPlan, NoVariable}
 use Rattle.locate.proofs.Numbers.{nots}
 use Rattle.locate.proofs.Subtrees.{records-between}
 use Rattle.locate.proofs.Tops.{Topped, topped, segments-more, good-segments-more, segments-out, segment-keeps}
@@ -140,6 +140,9 @@ module _ {t : List ℤ} {m n i left : ℕ} (v : Passing t m n i left) where
     own-long = length-seen (extraOf t i) (pos (natural (field t i 2))) S ∙ sym counted
 
     module _ {y : ℕ} (ey : y ≡ natural (field t i 5)) {c : ℕ} (ec : c ≡ natural (field t i 6)) where
+      pub few-before : y ≤ 4095
+      few-before = omega (arith, v .few, top .nests)
+
       pub skip : c ≤ left → Passing t m n y (left - c)
       skip h = rw (ey, ec) (record {
         upto = top .nests;
@@ -161,13 +164,35 @@ module _ {t : List ℤ} {m n i left : ℕ} (v : Passing t m n i left) where
         pub segment-site : Site t (i + 1) y o
         segment-site = rw (ey, eo) (record { depth = 3; good = told-all .1; keeps = sym (segment-keeps t i (top .origin)) ∙ told-all .3 })
 
-        pub enters : {s : ℕ} → s ≡ natural (field t i 3) → (z : Located) → toldOf z ≡ insideOf t s (i + 1) y o left → toldOf z ≡ variableOf (segmentsOf t) m
+        pub enters : {s : ℕ} → s ≡ natural (field t i 3) → {w : ℕ} → Finds t (i + 1) y o left w → (z : Located) → toldOf z ≡ standing t s w → toldOf z ≡ variableOf (segmentsOf t) m
         unfolding insideOf segmentSteps segmentOf
-        enters es z q = q ∙ rw (es, ey, eo) (sym (here ∙ List·getD-append own rest none left (omega (arith, own-long))))
+        enters {s} es f z q = q ∙ f .same s ∙ rw (es, ey, eo) (sym (here ∙ List·getD-append own rest none left (omega (arith, own-long))))
+
+-- ── what was found ──
+
+module _ {w : ℕ} where
+  pub told-none : (t : List ℤ) (space : ℕ) → w ≡ 18446744073709551615 → toldOf NoVariable ≡ standing t space w
+  unfolding toldOf standing
+  told-none t space h = sym (rw (eq-eqb w 18446744073709551615 h))
+
+  module _ (h : w ≡ 18446744073709551615 → ⊥) where
+    pub told-record : {l : ℕ} → ((w ≡ 18446744073709551615 → ⊥) → w % 4096 * 8 + 8 ≤ l) → w % 4096 * 8 + 8 ≤ l
+    told-record f = f h
+
+    pub told-is : (t : List ℤ) (space : ℕ) {z k : ℕ} → z ≡ natural (field t (w % 4096) 3) → k ≡ natural (field t (w % 4096) 0)
+        → toldOf (At (w % 4096) space (w / 4096) z k) ≡ standing t space w
+    unfolding toldOf standing
+    told-is t space ez ek = rw (ez, ek) (sym (rw (ne-eqb w 18446744073709551615 h)))
+
+pub ruleset standing-for = (told-none, told-record, told-is, needs)
+
+-- it stands in a record of the table
+pub found-held : {t : List ℤ} {i e a n w : ℕ} → Finds t i e a n w → (w ≡ 18446744073709551615 → ⊥) → w % 4096 * 8 + 8 ≤ length t
+found-held f = f .held
 
 pub ruleset passing = (begin, no-segment, skip, enters, needs)
 
-pub ruleset into-segment = (top-first, top-last, segment-site, needs)
+pub ruleset into-segment = (top-first, top-last, segment-site, few-before, found-held, needs)
 
 -- ── the whole answer ──
 

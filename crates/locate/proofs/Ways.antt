@@ -12,7 +12,7 @@ use lib.ListN.{length, getD, List·getD-append, length-map}
 use lib.Seq.{getD-append-add}
 use lib.IntN.{ℤ, pos, negsuc, negℤ, _+ℤ_}
 use Rattle.cdi.specs.Faults.{Answer, fault}
-use Rattle.cdi.specs.Faults.Answer.{refused}
+use Rattle.cdi.specs.Faults.Answer.{accepted, refused}
 use Rattle.cdi.specs.Rules.{natural}
 use Rattle.cdi.specs.Walk.{Items, Step, Found, Variable, found, records, steps, copies, count, change, variables}
 use Rattle.cdi.specs.Walk.Step.{add, stand}
@@ -28,9 +28,7 @@ use Rattle.extent.proofs.Joins.{offset-sound, repeat-sound, extent-sound, exten
 use Rattle.extent.proofs.Reached.{Fits, fits-of, of-fits, past, join-first, join-second, Moves, offset-moves, arrives, extent-change}
 use Rattle.extent.proofs.Holding.{by-offset}
 use Rattle.locate.specs.Judging.{elementExtent, goodIn, itemsExtent}
-use Rattle.locate.specs.Finding.{toldOf, answer, insideOf, Site, movedBy, allRise, allFall, eachOf, copyAt, copyOf, Chosen}
-use Rattle.locate.specs.declared.Located.{Located}
-use Rattle.locate.specs.declared.Located.the-variants.{Variable as At, NoVariable}
+use Rattle.locate.specs.Finding.{answer, insideOf, standing, Finds, Site, movedBy, allRise, allFall, eachOf, copyAt, copyOf, Chosen}
 use Rattle.locate.specs.declared.inside.Copied.{Copied}
 use Rattle.locate.proofs.Subtrees.{Ranged, ranged, items-out, items-more, Same, same-steps, good-fits, good-members, good-told, good-following, records-between}
 use Rattle.locate.proofs.Elements.{element-sound, element-extent, items-sound}
@@ -86,6 +84,25 @@ nth-copy space r s a n h =
     b : ℤ
     b = copyStart a (change s) (n / count s)
 
+-- ── a record and an address as one number ──
+
+packs : (t : List ℤ) (space s i : ℕ) → s ≤ 2 ^ 32 → i ≤ 4095
+    → standing t space (s * 4096 + i) ≡ accepted (record { number = i; space = space; address = s; size = extraOf t i; kind = kindOf t i })
+unfolding standing
+packs t space s i h k = rw (ne-eqb (s * 4096 + i) 18446744073709551615 other, quotient, remainder)
+  where
+    other : s * 4096 + i ≡ 18446744073709551615 → ⊥
+    other e = omega arith
+
+    quotient : (s * 4096 + i) / 4096 ≡ s
+    quotient = omega arith
+
+    remainder : (s * 4096 + i) % 4096 ≡ i
+    remainder = omega arith
+
+record-held : (s i e l : ℕ) → i < e → e ≤ 4095 → e * 8 ≤ l → (s * 4096 + i) % 4096 * 8 + 8 ≤ l
+record-held s i e l b few long = let z : (s * 4096 + i) % 4096 ≡ i = omega arith in rw z (omega arith)
+
 -- ── an element's steps ──
 
 module _ (t : List ℤ) (i : ℕ) (m : Items) where
@@ -118,12 +135,18 @@ group-extent : (t : List ℤ) (i : ℕ) (m : Extent) → kindOf t i ≡ 2 → el
 unfolding elementExtent
 group-extent t i m h = rw (eq-eqb (kindOf t i) 2 h)
 
+-- a number that is a count
+counted-plain : (z : ℤ) (n : ℕ) → z ≡ pos n → natural (negℤ z) ≤ 0
+unfolding down
+counted-plain z n e = omega (arith, fall-down z, ap down e)
+
 -- ── what a good record says, walked from address a ──
 
 pub record Entry (t : List ℤ) (d i e a : ℕ) (f : Items) : Type 0 where
   pub range : Ranged t i e
   pub inner : goodIn t (d + 1) (i + 1) (nextOf t i) ≡ true
   pub counts : natural (field t i 6) ≡ count (steps i (itemOf t i (itemsIn t (i + 1) (nextOf t i)) Items.end))
+  pub plain : natural (negℤ (field t i 6)) ≤ 0
   pub moves : Moves (field t i 7) (elementExtent t i (itemsExtent t (i + 1) (nextOf t i)))
   pub fits : Fits a (elementExtent t i (itemsExtent t (i + 1) (nextOf t i)))
   pub after : Fits (past a (elementExtent t i (itemsExtent t (i + 1) (nextOf t i)))) (extentOf (steps (nextOf t i) f))
@@ -138,6 +161,7 @@ entry t k d i e a b n g f = (
     range = ran;
     inner = good-inside;
     counts = ap natural (same-number (field t i 6) (pos (count S)) (tells .0));
+    plain = counted-plain (field t i 6) (count S) (same-number (field t i 6) (pos (count S)) (tells .0));
     moves = rw (same-number (field t i 7) (change S) (tells .1), ← own-is) (extent-change S);
     fits = join-first a own following own-sound following-sound whole;
     after = join-second a own following own-sound following-sound whole;
@@ -195,7 +219,7 @@ entry t k d i e a b n g f = (
 -- ── the loop ──
 
 -- what is known at record i, address a, with `left` variables to pass
-pub record Seeking (t : List ℤ) (space from end origin n i a left : ℕ) : Type 0 where
+pub record Seeking (t : List ℤ) (from end origin n i a left : ℕ) : Type 0 where
   pub upto : i ≤ end
   pub since : from ≤ i
   pub depth : ℕ
@@ -203,11 +227,11 @@ pub record Seeking (t : List ℤ) (space from end origin n i a left : ℕ) : Typ
   pub spare : end ≤ i + enough
   pub good : itemsGood t enough depth i end ≡ true
   pub fits : Fits a (extentOf (steps i (itemsFrom t enough i end)))
-  pub whole : insideOf t space from end origin n ≡ getD (seen space (pos a) (steps i (itemsFrom t enough i end))) left none
+  pub whole : (space : ℕ) → insideOf t space from end origin n ≡ getD (seen space (pos a) (steps i (itemsFrom t enough i end))) left none
 
-pub start : (t : List ℤ) (space from end origin n : ℕ) → from ≤ end → Site t from end origin → Seeking t space from end origin n from origin n
+pub start : (t : List ℤ) (from end origin n : ℕ) → from ≤ end → Site t from end origin → Seeking t from end origin n from origin n
 unfolding insideOf itemsExtent itemsIn
-start t space from end origin n h s = record {
+start t from end origin n h s = record {
   upto = h;
   since = omega arith;
   depth = s .depth;
@@ -215,13 +239,13 @@ start t space from end origin n h s = record {
   spare = omega arith;
   good = s .good;
   fits = fits-of origin (itemsExtent t from end) (s .keeps);
-  whole = refl;
+  whole = λ space. refl;
 }
 
-module _ {t : List ℤ} {space from end origin n i a left : ℕ} (v : Seeking t space from end origin n i a left) where
-  pub nowhere : end ≤ i → toldOf NoVariable ≡ insideOf t space from end origin n
-  unfolding toldOf steps variables
-  nowhere h = sym (v .whole ∙ rw (items-out t (v .enough) i end h))
+module _ {t : List ℤ} {from end origin n i a left : ℕ} (v : Seeking t from end origin n i a left) where
+  pub nowhere : end ≤ i → Finds t from end origin n 18446744073709551615
+  unfolding standing steps variables
+  nowhere h = record { same = λ space. sym (v .whole space ∙ rw (items-out t (v .enough) i end h)); held = λ e. absurd (e refl) }
 
   module _ (b : i < end) where
     more : v .enough ≡ suc (pred (v .enough))
@@ -251,8 +275,8 @@ module _ {t : List ℤ} {space from end origin n i a left : ℕ} (v : Seeking t 
     pub en : Entry t (v .depth) i end a (itemsFrom t (pred (v .enough)) x end)
     en = both .1
 
-    here : insideOf t space from end origin n ≡ getD (seen space (pos a) (S ++ rest)) left none
-    here = v .whole ∙ rw (more, both .0)
+    here : (space : ℕ) → insideOf t space from end origin n ≡ getD (seen space (pos a) (S ++ rest)) left none
+    here space = v .whole space ∙ rw (more, both .0)
 
     pub own-moves : Moves (change S) own
     unfolding itemsExtent
@@ -292,6 +316,13 @@ module _ {t : List ℤ} {space from end origin n i a left : ℕ} (v : Seeking t 
     unfolding elementExtent join
     start-high = high-enough (field t i 2) (omega (arith, en .fits, offset-moves (field t i 2), offset-sound (field t i 2)))
 
+    pub count-plain : natural (negℤ (field t i 6)) ≤ 0
+    count-plain = en .plain
+
+    pub start-most : {s : ℕ} → s ≡ movedBy t i 2 a → s ≤ 2 ^ 32
+    unfolding elementExtent join movedBy
+    start-most es = omega (arith, en .fits, offset-moves (field t i 2), offset-sound (field t i 2), rise-up (field t i 2), fall-down (field t i 2))
+
     pub next-first : i < natural (field t i 5)
     next-first = en .range .ahead
 
@@ -302,9 +333,9 @@ module _ {t : List ℤ} {space from end origin n i a left : ℕ} (v : Seeking t 
     unfolding movedBy
     change-is = omega (arith, en .moves, rise-up (field t i 7), fall-down (field t i 7))
 
-    module _ {y : ℕ} (ey : y ≡ natural (field t i 5)) {c : ℕ} (ec : c ≡ natural (field t i 6)) where
-      pub pass : c ≤ left → {a′ : ℕ} → a′ ≡ movedBy t i 7 a → Seeking t space from end origin n y a′ (left - c)
-      pass h {a′} ea = rw (ea, change-is, ey, ec) (record {
+    module _ {c : ℕ} (ec : c ≡ natural (field t i 6)) where
+      pub pass : c ≤ left → {a′ : ℕ} → a′ ≡ movedBy t i 7 a → {y : ℕ} → y ≡ natural (field t i 5) → Seeking t from end origin n y a′ (left - c)
+      pass h {a′} ea ey = rw (ea, change-is, ey, ec) (record {
         upto = en .range .nests;
         since = omega (arith, v .since, en .range .ahead);
         depth = v .depth;
@@ -312,16 +343,16 @@ module _ {t : List ℤ} {space from end origin n i a left : ℕ} (v : Seeking t 
         spare = omega (arith, v .spare, more, en .range .ahead);
         good = good-following t (pred (v .enough)) (v .depth) i end b (rw more at (v .good));
         fits = en .after;
-        whole =
-            here
+        whole = λ space.
+            here space
             ∙ behind space S rest (pos a) left (omega (arith, en .counts))
             ∙ rw (arrives a (change S) own own-moves (en .fits .low), ← (en .counts));
       })
 
       module _ (h : left < c) {s : ℕ} (es : s ≡ movedBy t i 2 a) {k : ℕ} (ek : k ≡ natural (field t i 0)) where
         -- it stands in this element
-        within : insideOf t space from end origin n ≡ getD (seen space (pos a) S) left none
-        within = here ∙ ahead space S rest (pos a) left (omega (arith, en .counts))
+        within : (space : ℕ) → insideOf t space from end origin n ≡ getD (seen space (pos a) S) left none
+        within space = here space ∙ ahead space S rest (pos a) left (omega (arith, en .counts))
 
         pub start-is : pos a +ℤ field t i 2 ≡ pos s
         unfolding movedBy
@@ -329,9 +360,12 @@ module _ {t : List ℤ} {space from end origin n i a left : ℕ} (v : Seeking t 
             arrives a (field t i 2) (byOffset (field t i 2)) (offset-moves (field t i 2)) offset-low
             ∙ ap pos (rw (← (by-offset (field t i 2))) (sym es))
 
-        pub variable-is : (k ≡ 2 → ⊥) → {z : ℕ} → z ≡ natural (field t i 3) → toldOf (At i space s z k) ≡ insideOf t space from end origin n
-        unfolding toldOf answer found variables count natural
-        variable-is e ez = sym (within ∙ rw (variable-steps t i M other, zero-left, start-is, ez, ek))
+        pub variable-is : (k ≡ 2 → ⊥) → end ≤ 4095 → end * 8 ≤ length t → {w : ℕ} → w ≡ s * 4096 + i → Finds t from end origin n w
+        unfolding answer found variables count natural
+        variable-is e few long ew = rw ew (record {
+          same = λ space. packs t space s i (start-most es) (omega arith) ∙ sym (within space ∙ rw (variable-steps t i M other, zero-left, start-is));
+          held = λ no. record-held s i end (length t) b few long;
+        })
           where
             other : natural (field t i 0) ≡ 2 → ⊥
             other q = e (ek ∙ q)
@@ -393,18 +427,18 @@ module _ {t : List ℤ} {space from end origin n i a left : ℕ} (v : Seeking t 
             unfolding copyOf
             numbers = ap (λ (z : Copied). z .number) ech ∙ rw each-one
 
-            pub chosen-site : Site t (i + 1) y (ch .start)
-            chosen-site = rw ey (record {
+            pub chosen-site : {y : ℕ} → y ≡ natural (field t i 5) → Site t (i + 1) y (ch .start)
+            chosen-site ey = rw ey (record {
               depth = v .depth + 1;
               good = en .inner;
               keeps = of-fits (ch .start) E (rw starts (copy-fits s (natural (field t i 4)) (left / K) E (items-sound t (i + 1) x) copies-fit below));
             })
 
             -- the walk of all copies has it in this one
-            walked : insideOf t space from end origin n ≡ insideOf t space (i + 1) x (ch .start) (ch .number)
+            walked : (space : ℕ) → insideOf t space from end origin n ≡ insideOf t space (i + 1) x (ch .start) (ch .number)
             unfolding insideOf variables itemsExtent
-            walked =
-                within
+            walked space =
+                within space
                 ∙ ap (λ (l : List Step). getD (seen space (pos a) l) left none) (group-steps t i M is-group)
                 ∙ ap (λ (z : ℤ). getD (seen space z (copies (natural (field t i 4)) (steps (i + 1) M))) left none) start-is
                 ∙ (nth-copy space (natural (field t i 4)) (steps (i + 1) M) (pos s) left (omega (arith, count-all))
@@ -412,9 +446,9 @@ module _ {t : List ℤ} {space from end origin n i a left : ℕ} (v : Seeking t 
                 (copy-starts s (natural (field t i 4)) (left / K) E (items-sound t (i + 1) x) copies-fit below (change (steps (i + 1) M)) (extent-change (steps (i + 1) M)))
                 ∙ ap₂ (λ (p m : ℕ). getD (seen space (pos p) (steps (i + 1) M)) m none) (sym starts) (sym numbers))
 
-            pub chosen-is : (z : Located) → toldOf z ≡ insideOf t space (i + 1) y (ch .start) (ch .number) → toldOf z ≡ insideOf t space from end origin n
-            chosen-is z q = q ∙ rw ey (sym walked)
+            pub chosen-is : {y : ℕ} → y ≡ natural (field t i 5) → {w : ℕ} → Finds t (i + 1) y (ch .start) (ch .number) w → Finds t from end origin n w
+            chosen-is ey q = record { same = λ space. q .same space ∙ rw ey (sym (walked space)); held = q .held }
 
 pub ruleset seeking = (start, nowhere, pass, variable-is, chosen-is, needs)
 
-pub ruleset stepping = (address-high, change-low, start-low, change-high, start-high, next-first, next-last, chosen, chosen-site, needs)
+pub ruleset stepping = (address-high, change-low, start-low, change-high, start-high, start-most, count-plain, next-first, next-last, chosen, chosen-site, needs)

@@ -1,10 +1,8 @@
 // Where variable n of good records stands: along the records, past whole elements by their counts, and down into the one copy that holds it.
 
-use crate::Located;
 use crate::ranges::GROUP;
 use crate::table::CHANGE;
 use crate::table::COUNT;
-use crate::table::EXTRA;
 use crate::table::KIND;
 use crate::table::NEXT;
 use crate::table::REPLICATION;
@@ -19,7 +17,13 @@ ghost use lib.ListN.{length};
 ghost use lib.IntN.{negℤ};
 ghost use Rattle.cdi.specs.Rules.{natural};
 ghost use Rattle.cdi.specs.Plans.{field};
-ghost use Rattle.locate.specs.Finding.{toldOf, insideOf, Site, movedBy, allRise, allFall, eachOf, copyAt, copyOf, Chosen};
+ghost use Rattle.locate.specs.Finding.{Site, Finds, movedBy, allRise, allFall, eachOf, copyAt, copyOf, Chosen};
+
+// A table has at most 4,095 records, so their numbers are below this one.
+pub const RECORDS: u64 = 4096;
+
+// What `find_in` says where there is no variable.
+pub const NOWHERE: u64 = 18446744073709551615;
 
 // One copy of a group's members: the address it starts at, and the number of the sought variable in it.
 pub struct Copied {
@@ -104,17 +108,25 @@ pub fn next_record(table: &[i64], i: usize, end: usize) -> usize
     natural_at(table, i, NEXT) as usize
 }
 
-// Variable `n` of the data elements from record `from` to before `end`, walked from `origin`.
-pub fn find_in(table: &[i64], from: usize, end: usize, origin: u64, n: u64, space: u64) -> Located
-    requires { ⌜ (from ≤ end) × (end * 8 ≤ length (now table)) × Site (now table) from end origin ⌝ }
-    ensures { λ r. ⌜ toldOf r ≡ insideOf (now (table .entry)) space from end origin n ⌝ }
+// A record and an address as one number.
+fn packed(address: u64, i: usize) -> u64
+    requires { ⌜ (address ≤ 2 ^ 32) × (i ≤ 4095) ⌝ }
+    ensures { λ r. ⌜ r ≡ address * 4096 + i ⌝ }
+{
+    address * RECORDS + i as u64
+}
+
+// Variable `n` of the data elements from record `from` to before `end`, walked from `origin`: its record and its address, or `NOWHERE`. They are packed so that they
+// come back through all levels in a register.
+pub fn find_in(table: &[i64], from: usize, end: usize, origin: u64, n: u64) -> u64
+    requires { ⌜ (from ≤ end) × (end ≤ 4095) × (end * 8 ≤ length (now table)) × Site (now table) from end origin ⌝ }
+    ensures { λ r. ⌜ Finds (now (table .entry)) from end origin n r ⌝ }
 {
     let mut i = from;
     let mut address = origin;
     let mut left = n;
     while i < end {
-        let count = rise_at(table, i, COUNT);
-        let next = next_record(table, i, end);
+        let count = natural_at(table, i, COUNT);
         if left < count {
             let start = moved_by(table, i, START, address);
             let kind = rise_at(table, i, KIND);
@@ -122,20 +134,14 @@ pub fn find_in(table: &[i64], from: usize, end: usize, origin: u64, n: u64, spac
                 let copy = choose(table, i, start, left);
                 let first = copy.start;
                 let number = copy.number;
-                return find_in(table, i + 1, next, first, number, space);
+                let next = next_record(table, i, end);
+                return find_in(table, i + 1, next, first, number);
             }
-            let size = rise_at(table, i, EXTRA);
-            return Located::Variable {
-                record: i,
-                space: space,
-                address: start,
-                size: size,
-                kind: kind,
-            };
+            return packed(start, i);
         }
         left = left - count;
         address = moved_by(table, i, CHANGE, address);
-        i = next;
+        i = next_record(table, i, end);
     }
-    Located::NoVariable
+    NOWHERE
 }

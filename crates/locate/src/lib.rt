@@ -5,18 +5,23 @@ mod plan;
 pub mod ranges;
 pub mod table;
 
+use inside::NOWHERE;
+use inside::RECORDS;
 use inside::find_in;
 use inside::next_record;
 use plan::segments;
 use table::COUNT;
 use table::EXTRA;
+use table::KIND;
 use table::NUMBERS;
 use table::START;
 use table::rise_at;
 ghost use mathlib.Core.Path.{_≡_};
 ghost use mathlib.Core.Bool.{true};
+ghost use Prim.Native.Nat.{_≤_, _+_, _*_, _%_};
+ghost use lib.ListN.{length};
 ghost use Rattle.cdi.specs.Plans.{isPlan, segmentsOf, variableOf, locating};
-ghost use Rattle.locate.specs.Finding.{toldOf};
+ghost use Rattle.locate.specs.Finding.{toldOf, standing};
 
 // "it has at most 4,095 records"
 const MOST_RECORDS: usize = 4095;
@@ -49,6 +54,26 @@ pub fn is_plan(table: &[i64]) -> bool
     segments(table, records)
 }
 
+// What `find_in` found, as the answer for a segment of this space.
+fn told(table: &[i64], space: u64, found: u64) -> Located
+    requires { ⌜ ((found ≡ 18446744073709551615 → ⊥) → found % 4096 * 8 + 8 ≤ length (now table)) ⌝ }
+    ensures { λ r. ⌜ toldOf r ≡ standing (now (table .entry)) space found ⌝ }
+{
+    if found == NOWHERE {
+        return Located::NoVariable;
+    }
+    let i = (found % RECORDS) as usize;
+    let size = rise_at(table, i, EXTRA);
+    let kind = rise_at(table, i, KIND);
+    Located::Variable {
+        record: i,
+        space: space,
+        address: found / RECORDS,
+        size: size,
+        kind: kind,
+    }
+}
+
 // Variable `n` of a table that is known to be a plan: what a caller repeats once the test has passed.
 pub fn find(table: &[i64], n: u64) -> Located
     requires { ⌜ isPlan (now table) ≡ true ⌝ }
@@ -63,7 +88,8 @@ pub fn find(table: &[i64], n: u64) -> Located
         if left < count {
             let origin = rise_at(table, i, START);
             let space = rise_at(table, i, EXTRA);
-            return find_in(table, i + 1, next, origin, left, space);
+            let found = find_in(table, i + 1, next, origin, left);
+            return told(table, space, found);
         }
         left = left - count;
         i = next;

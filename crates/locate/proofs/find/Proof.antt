@@ -35,7 +35,10 @@ find-in-requires c κs =
     let next = inside .before in
     let count = next .before in
     let turn = count .before in
-    (search needs, search needs, segment-site (turn .before .loop .inv) (turn .loop-test .taken) (next .next-record .ensures .0) (count .rise-at .ensures .0) (inside .if1 .taken) (origin .rise-at2 .ensures .0))
+    (search needs, search into-segment, search needs, segment-site (turn .before .loop .inv) (turn .loop-test .taken) (next .next-record .ensures .0) (count .rise-at .ensures .0) (inside .if1 .taken) (origin .rise-at2 .ensures .0))
+
+told-requires : tie.Need-told-requires Inv-loop μ-loop
+told-requires c κs = search into-segment
 
 returns : tie.Need-returns Inv-loop μ-loop
 returns c = search passing
@@ -62,6 +65,7 @@ find-spec =
     rise-at-requires-3
     add-find-in
     find-in-requires
+    told-requires
     returns
     loop-less
     loop-again
