@@ -1,11 +1,13 @@
 -- The numbers of one copy, as the code makes them.
 use mathlib.Core.Path.{_≡_, refl, sym, ap, _∙_}
 use mathlib.Core.List.{List}
+use mathlib.Core.Bool.{Bool, true, false, cond}
 use Prim.Native.Nat.{ℕ, zero, suc, _+_, _-_, _*_, _/_, _%_, _^_, _≤_, _<_}
 use native.Mathlib.Omega.{arith}
+use native.Mathlib.Nat.{div-one, div-eq-of-lt, mod-eq-of-lt}
 use borrow.Author.Needs.{needs}
 use borrow.Author.Tests.{le-leb, lt-leb}
-use lib.Dec.{T}
+use lib.Dec.{T, leb}
 use lib.IntN.{ℤ, pos, negsuc, negℤ, natAbs, _+ℤ_}
 use lib.Signed.{nonNeg}
 use mir.Syntax.{w64}
@@ -17,6 +19,7 @@ use Rattle.cdi.proofs.Signs.{up, down, sum, up-same}
 use Rattle.extent.proofs.Signed.{read, read-is, rise-up, fall-down}
 use Rattle.locate.specs.Finding.{movedBy, allRise, allFall, eachOf, copyAt, copyOf, Chosen}
 use Rattle.locate.specs.declared.inside.Copied.{Copied}
+use Rattle.locate.proofs.Numbers.{some-raised}
 
 -- a number that takes away adds nothing
 pub one-sided : (z : ℤ) → 0 < natural (negℤ z) → natural z ≡ 0
@@ -103,4 +106,21 @@ module _ (t : List ℤ) (i a n : ℕ) (h : Chosen t i a n) {k : ℕ} (e : k ≡ 
   pub chosen-low : n / k * ((allFall t i - allRise t i) / natural (field t i 4)) ≤ a
   chosen-low = rw e (h .low)
 
-pub ruleset choosing = (copy-of-is, chosen-high, chosen-low, needs)
+-- where there is one copy, it is the first
+first-copy : (t : List ℤ) (i a : ℕ) → copyAt t i a 0 ≡ a
+unfolding copyAt
+first-copy t i a = by (leb (allFall t i) (allRise t i)) _ _
+  where
+    by : (b : Bool) (u d : ℕ) → cond b (a + 0 * u) (a - 0 * d) ≡ a
+    by true u d = omega arith
+    by false u d = omega arith
+
+module _ (t : List ℤ) (i a n : ℕ) (h : Chosen t i a n) where
+  pub chosen-plain : natural (negℤ (field t i 4)) ≤ 0
+  chosen-plain = some-raised t i 4 (h .some)
+
+  pub chosen-only : {r : ℕ} → r ≡ natural (field t i 4) → r ≡ 1 → _≡_ {A = Copied} (record { start = a; number = n }) (copyOf t i a n)
+  unfolding copyOf eachOf
+  chosen-only er e = sym (rw (sym er ∙ e, div-one, div-eq-of-lt (h .within), mod-eq-of-lt (h .within), first-copy t i a))
+
+pub ruleset choosing = (copy-of-is, chosen-high, chosen-low, chosen-plain, chosen-only, needs)

@@ -78,7 +78,10 @@ above-zero (negsuc n) h = absurd (omega arith)
 pub raised : (t : List ℤ) (i f : ℕ) {m : ℕ} → m < natural (field t i f) → natural (negℤ (field t i f)) ≤ 0
 raised t i f h = above-zero (field t i f) h
 
-pub ruleset raising = (raised, needs)
+pub some-raised : (t : List ℤ) (i f : ℕ) → 1 ≤ natural (field t i f) → natural (negℤ (field t i f)) ≤ 0
+some-raised t i f h = above-zero (field t i f) {m = 0} (omega arith)
+
+pub ruleset raising = (raised, some-raised, needs)
 
 -- ── from one number to another ──
 

@@ -410,6 +410,7 @@ module _ {t : List ℤ} {from end origin n i a left : ℕ} (v : Seeking t from e
           pub chosen : Chosen t i s left
           unfolding allRise allFall
           chosen = record {
+            within = omega arith;
             some = en .range .one;
             each = rw each-one some;
             high = rw (each-one, share-up (field t i 7) (field t i 2) (natural (field t i 4)) E (en .range .one) copies-move)

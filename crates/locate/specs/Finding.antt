@@ -2,7 +2,7 @@
 use mathlib.Core.Path.{_≡_}
 use mathlib.Core.List.{List, map}
 use mathlib.Core.Bool.{true, cond}
-use Prim.Native.Nat.{ℕ, _+_, _-_, _*_, _/_, _%_, _^_, _≤_}
+use Prim.Native.Nat.{ℕ, _+_, _-_, _*_, _/_, _%_, _^_, _≤_, _<_}
 use lib.Dec.{eqb, leb}
 use lib.ListN.{length, getD}
 use lib.IntN.{ℤ, pos, negℤ}
@@ -76,6 +76,7 @@ copyOf t i a n = record { start = copyAt t i a (n / eachOf t i); number = n % ea
 
 -- there is such a copy, and no number on the way to it is too large
 pub record Chosen (t : List ℤ) (i a n : ℕ) : Type 0 where
+  pub within : n < natural (field t i 6)
   pub some : 1 ≤ replicationOf t i
   pub each : 1 ≤ eachOf t i
   pub high : a + n / eachOf t i * ((allRise t i - allFall t i) / replicationOf t i) ≤ 2 ^ 32

@@ -67,7 +67,7 @@ pub fn each(table: &[i64], i: usize) -> u64
     ensures { λ r. ⌜ r ≡ eachOf (now (table .entry)) i ⌝ }
 {
     let count = rise_at(table, i, COUNT);
-    let replication = rise_at(table, i, REPLICATION);
+    let replication = natural_at(table, i, REPLICATION);
     count / replication
 }
 
@@ -80,18 +80,24 @@ fn copy_at(table: &[i64], i: usize, first: u64, q: u64) -> u64
 {
     let up = all_rise(table, i);
     let down = all_fall(table, i);
-    let replication = rise_at(table, i, REPLICATION);
+    let replication = natural_at(table, i, REPLICATION);
     if down <= up {
         return first + q * ((up - down) / replication);
     }
     first - q * ((down - up) / replication)
 }
 
-// The copy of group `i` that holds variable `n` of all its copies.
+// The copy of group `i` that holds variable `n` of all its copies. A group of one copy, the usual one, is entered without a division.
 pub fn choose(table: &[i64], i: usize, first: u64, n: u64) -> Copied
     requires { ⌜ (i * 8 + 8 ≤ length (now table)) × Chosen (now table) i first n ⌝ }
     ensures { λ r. ⌜ r ≡ copyOf (now (table .entry)) i first n ⌝ }
 {
+    if natural_at(table, i, REPLICATION) == 1 {
+        return Copied {
+            start: first,
+            number: n,
+        };
+    }
     let variables = each(table, i);
     let start = copy_at(table, i, first, n / variables);
     Copied {

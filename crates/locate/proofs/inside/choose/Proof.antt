@@ -6,6 +6,8 @@ use Rattle.locate.proofs.inside.choose.Tie as tie
 pub choose-spec : {M : Type 1} → statement M
 choose-spec =
     tie.close (tie.spec
+    (λ c κs. search choosing)
+    (λ c. search choosing)
     (λ c κs. search needs)
     (λ c. search needs)
     (λ c κs. search choosing)

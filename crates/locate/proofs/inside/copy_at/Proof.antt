@@ -1,4 +1,5 @@
 use borrow.Author.Needs.{needs}
+use Rattle.locate.proofs.Numbers.{raising}
 use Rattle.locate.proofs.Dividing.{copying}
 use Rattle.locate.proofs.inside.copy_at.Statement.{statement}
 use Rattle.locate.proofs.inside.copy_at.Tie as tie
@@ -8,7 +9,7 @@ copy-at-spec =
     tie.close (tie.spec
     (λ c κs. search needs)
     (λ c κs. search needs)
-    (λ c κs. search needs)
+    (λ c κs. search raising)
     (λ c. search needs)
     (λ c. search copying)
     (λ c. search copying)

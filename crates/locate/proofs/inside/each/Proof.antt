@@ -1,4 +1,5 @@
 use borrow.Author.Needs.{needs}
+use Rattle.locate.proofs.Numbers.{raising}
 use Rattle.locate.proofs.Dividing.{copying}
 use Rattle.locate.proofs.inside.each.Statement.{statement}
 use Rattle.locate.proofs.inside.each.Tie as tie
@@ -7,6 +8,6 @@ pub each-spec : {M : Type 1} → statement M
 each-spec =
     tie.close (tie.spec
     (λ c κs. search needs)
-    (λ c κs. search needs)
+    (λ c κs. search raising)
     (λ c. search needs)
     (λ c. search copying))
