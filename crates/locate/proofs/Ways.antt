@@ -411,6 +411,8 @@ module _ {t : List ℤ} {from end origin n i a left : ℕ} (v : Seeking t from e
           unfolding allRise allFall
           chosen = record {
             within = omega arith;
+            rises = omega (arith, change-high, start-low, address-high);
+            falls = omega (arith, change-low, start-high, address-high);
             some = en .range .one;
             each = rw each-one some;
             high = rw (each-one, share-up (field t i 7) (field t i 2) (natural (field t i 4)) E (en .range .one) copies-move)

@@ -80,6 +80,8 @@ pub record Chosen (t : List ℤ) (i a n : ℕ) : Type 0 where
   pub some : 1 ≤ replicationOf t i
   pub each : 1 ≤ eachOf t i
   pub high : a + n / eachOf t i * ((allRise t i - allFall t i) / replicationOf t i) ≤ 2 ^ 32
+  pub rises : allRise t i ≤ 2 ^ 33
+  pub falls : allFall t i ≤ 2 ^ 33
   pub low : n / eachOf t i * ((allFall t i - allRise t i) / replicationOf t i) ≤ a
 
 unfoldable pub finding-page : Unit {0}

@@ -7,14 +7,15 @@ use crate::table::KIND;
 use crate::table::NEXT;
 use crate::table::REPLICATION;
 use crate::table::START;
-use crate::table::fall_at;
 use crate::table::field;
 use crate::table::natural_at;
 use crate::table::rise_at;
+use extent::fall;
+use extent::rise;
 ghost use mathlib.Core.Path.{_≡_};
 ghost use Prim.Native.Nat.{_≤_, _<_, _+_, _-_, _*_, _/_, _^_};
 ghost use lib.ListN.{length};
-ghost use lib.IntN.{negℤ};
+ghost use lib.IntN.{negℤ, _-ℤ_};
 ghost use Rattle.cdi.specs.Rules.{natural};
 ghost use Rattle.cdi.specs.Plans.{field};
 ghost use Rattle.locate.specs.Finding.{Site, Finds, movedBy, allRise, allFall, eachOf, copyAt, copyOf, Chosen};
@@ -41,24 +42,30 @@ pub fn moved_by(table: &[i64], i: usize, which: usize, address: u64) -> u64
     (address as i64 + by) as u64
 }
 
-// What all copies of group `i` rise by together, before what they fall by is taken off: its change less its own offset.
-fn all_rise(table: &[i64], i: usize) -> u64
-    requires { ⌜ i * 8 + 8 ≤ length (now table) ⌝ }
-    ensures { λ r. ⌜ r ≡ allRise (now (table .entry)) i ⌝ }
+// What all copies of group `i` change the address by together: its change less its own offset.
+fn all_change(table: &[i64], i: usize) -> i64
+    requires { ⌜ (i * 8 + 8 ≤ length (now table)) × (allRise (now table) i ≤ 2 ^ 33) × (allFall (now table) i ≤ 2 ^ 33) ⌝ }
+    ensures { λ r. ⌜ r ≡ field (now (table .entry)) i 7 -ℤ field (now (table .entry)) i 2 ⌝ }
 {
-    let up = rise_at(table, i, CHANGE);
-    let offset_down = fall_at(table, i, START);
-    up + offset_down
+    let change = field(table, i, CHANGE);
+    let offset = field(table, i, START);
+    change - offset
 }
 
-// What they fall by.
-fn all_fall(table: &[i64], i: usize) -> u64
-    requires { ⌜ i * 8 + 8 ≤ length (now table) ⌝ }
-    ensures { λ r. ⌜ r ≡ allFall (now (table .entry)) i ⌝ }
+// What they rise by together, else 0.
+fn all_rise(table: &[i64], i: usize) -> u64
+    requires { ⌜ (i * 8 + 8 ≤ length (now table)) × (allRise (now table) i ≤ 2 ^ 33) × (allFall (now table) i ≤ 2 ^ 33) ⌝ }
+    ensures { λ r. ⌜ r ≡ allRise (now (table .entry)) i - allFall (now (table .entry)) i ⌝ }
 {
-    let down = fall_at(table, i, CHANGE);
-    let offset_up = rise_at(table, i, START);
-    down + offset_up
+    rise(all_change(table, i))
+}
+
+// What they fall by together, else 0.
+fn all_fall(table: &[i64], i: usize) -> u64
+    requires { ⌜ (i * 8 + 8 ≤ length (now table)) × (allRise (now table) i ≤ 2 ^ 33) × (allFall (now table) i ≤ 2 ^ 33) ⌝ }
+    ensures { λ r. ⌜ r ≡ allFall (now (table .entry)) i - allRise (now (table .entry)) i ⌝ }
+{
+    fall(all_change(table, i))
 }
 
 // The variables of one copy of group `i`.
@@ -75,16 +82,17 @@ pub fn each(table: &[i64], i: usize) -> u64
 fn copy_at(table: &[i64], i: usize, first: u64, q: u64) -> u64
     requires { ⌜ (i * 8 + 8 ≤ length (now table)) × (1 ≤ natural (field (now table) i 4))
         × (first + q * ((allRise (now table) i - allFall (now table) i) / natural (field (now table) i 4)) ≤ 2 ^ 32)
-        × (q * ((allFall (now table) i - allRise (now table) i) / natural (field (now table) i 4)) ≤ first) ⌝ }
+        × (q * ((allFall (now table) i - allRise (now table) i) / natural (field (now table) i 4)) ≤ first)
+        × (allRise (now table) i ≤ 2 ^ 33) × (allFall (now table) i ≤ 2 ^ 33) ⌝ }
     ensures { λ r. ⌜ r ≡ copyAt (now (table .entry)) i first q ⌝ }
 {
     let up = all_rise(table, i);
     let down = all_fall(table, i);
     let replication = natural_at(table, i, REPLICATION);
-    if down <= up {
-        return first + q * ((up - down) / replication);
+    if down == 0 {
+        return first + q * (up / replication);
     }
-    first - q * ((down - up) / replication)
+    first - q * (down / replication)
 }
 
 // The copy of group `i` that holds variable `n` of all its copies. A group of one copy, the usual one, is entered without a division.

@@ -1,5 +1,5 @@
 use borrow.Author.Needs.{needs}
-use Rattle.locate.proofs.Dividing.{copying}
+use Rattle.locate.proofs.Dividing.{changing}
 use Rattle.locate.proofs.inside.all_fall.Statement.{statement}
 use Rattle.locate.proofs.inside.all_fall.Tie as tie
 
@@ -8,5 +8,4 @@ all-fall-spec =
     tie.close (tie.spec
     (λ c κs. search needs)
     (λ c κs. search needs)
-    (λ c. search needs)
-    (λ c. search copying))
+    (λ c. search changing))

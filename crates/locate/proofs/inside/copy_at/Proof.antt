@@ -15,7 +15,6 @@ copy-at-spec =
     (λ c. search copying)
     (λ c. search copying)
     (λ c. search needs)
-    (λ c. search needs)
     (λ c. search copying)
     (λ c. search copying)
     (λ c. search copying))
