@@ -1,2 +1,3 @@
--- The law of the timed functions.
+-- The laws of the timed functions.
 pub mod Told
+pub mod Once

@@ -1,0 +1,24 @@
+-- One answer: any two outcomes that a function's contract allows are equal. (The table is only read.)
+use mathlib.Core.Path.{_≡_}
+use mathlib.Core.List.{List}
+use Prim.Native.Nat.{ℕ}
+use lib.ListN.{length}
+use lib.IntN.{ℤ}
+use Rattle.cdi.specs.Walk.{walk}
+use Rattle.cdi.specs.Plans.{segmentsOf, variableOf, locating}
+use Rattle.locate.proofs.Once.{once}
+use Rattle.listing.specs.Batch.{batch, listed}
+use Rattle.listing.proofs.Once.{list-once}
+use Rattle.exports.specs.Addresses.{addressIn}
+
+pub timed-locate-once : (t : List ℤ) (n r s : ℕ) → r ≡ addressIn (locating t n) → s ≡ addressIn (locating t n) → r ≡ s
+timed-locate-once t n r s p q = once p q
+
+pub timed-find-once : (t : List ℤ) (n r s : ℕ) → r ≡ addressIn (variableOf (segmentsOf t) n) → s ≡ addressIn (variableOf (segmentsOf t) n) → r ≡ s
+timed-find-once t n r s p q = once p q
+
+pub timed-list-once : (t : List ℤ) (n : ℕ) (o : List ℕ) (r s : ℕ) (p q : List ℕ)
+    → r ≡ length (batch (walk (segmentsOf t)) n o) → p ≡ listed (walk (segmentsOf t)) n o
+    → s ≡ length (batch (walk (segmentsOf t)) n o) → q ≡ listed (walk (segmentsOf t)) n o
+    → (r ≡ s) × (p ≡ q)
+timed-list-once = list-once
