@@ -95,6 +95,29 @@ fn least(mut a: impl FnMut(), mut b: impl FnMut(), rounds: usize) -> (f64, f64) 
     best
 }
 
+/// The least times of asking the two for all of `asked`.
+fn in_turns(
+    table: &[i64],
+    asked: &[u64],
+    proved: impl Fn(&[i64], u64) -> u64,
+    plain: impl Fn(&[i64], u64) -> u64,
+    rounds: usize,
+) -> (f64, f64) {
+    least(
+        || {
+            asked.iter().for_each(|&n| {
+                black_box(proved(black_box(table), n));
+            })
+        },
+        || {
+            asked.iter().for_each(|&n| {
+                black_box(plain(black_box(table), n));
+            })
+        },
+        rounds,
+    )
+}
+
 fn tell(what: &str, each: usize, (proved, plain): (f64, f64)) {
     let per = 1e9 / each as f64;
     println!("{what}: proved {:.2} ns, plain {:.2} ns, ratio {:.2}", proved * per, plain * per, proved / plain);
@@ -124,35 +147,9 @@ fn main() {
             assert_eq!(proved_find(t, n), plain_find(t, n), "{name} {n}");
             assert_eq!(proved_locate(t, n), plain_locate(t, n), "{name} {n}");
         }
-        let times = least(
-            || {
-                asked.iter().for_each(|&n| {
-                    black_box(proved_find(black_box(t), n));
-                })
-            },
-            || {
-                asked.iter().for_each(|&n| {
-                    black_box(plain_find(black_box(t), n));
-                })
-            },
-            400,
-        );
-        tell(&format!("inner walk, {name}"), asked.len(), times);
+        tell(&format!("inner walk, {name}"), asked.len(), in_turns(t, &asked, proved_find, plain_find, 400));
         let few = &asked[..50];
-        let times = least(
-            || {
-                few.iter().for_each(|&n| {
-                    black_box(proved_locate(black_box(t), n));
-                })
-            },
-            || {
-                few.iter().for_each(|&n| {
-                    black_box(plain_locate(black_box(t), n));
-                })
-            },
-            100,
-        );
-        tell(&format!("locate, {name}"), few.len(), times);
+        tell(&format!("locate, {name}"), few.len(), in_turns(t, few, proved_locate, plain_locate, 100));
     }
     let long = [
         ("100,000 copies of 10", table(vec![Item::Group(0, 100_000, (0..10).map(|k| Item::Int(k % 2, 2)).collect())])),
