@@ -17,7 +17,7 @@ use Rattle.cdi.specs.Walk.{total}
 use Rattle.cdi.specs.Planning.{Description, describe, ending, characters, opening, cut, markup, elements, leaving, addresses, counting, described}
 use Rattle.cdi.proofs.Quiet.{impossible, quiet, through, stage-passed, test-passed}
 
-first-zero : (at : ℕ) (s : List ℕ) (e : ℕ) → zeroFrom at s ≡ some e → e < at + length s
+pub first-zero : (at : ℕ) (s : List ℕ) (e : ℕ) → zeroFrom at s ≡ some e → e < at + length s
 unfolding zeroFrom
 first-zero at [] e q = impossible (cc)
 first-zero at (x ∷ s) e q = by (eqb x 0) refl (first-zero (at + 1) s e)

@@ -1,5 +1,5 @@
 -- The leaves that move the state: judge and gauge beside each other, the gauge by an element's number.
-use mathlib.Core.Path.{_≡_, refl, sym, ap, _∙_}
+use mathlib.Core.Path.{_≡_, refl, ap, _∙_}
 use mathlib.Core.List.{List}
 use mathlib.Core.Bool.{false, cond}
 use Prim.Native.Nat.{ℕ, _^_, _≤_, _<_}

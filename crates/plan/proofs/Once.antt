@@ -1,5 +1,5 @@
 -- One answer: any two results that a contract allows are the same, and so is all lent memory that a result speaks of.
-use mathlib.Core.Path.{_≡_, refl, sym, ap, _∙_}
+use mathlib.Core.Path.{_≡_, sym, ap, _∙_}
 use mathlib.Core.List.{List}
 use Prim.Native.Nat.{ℕ, _*_}
 use lib.IntN.{ℤ}
@@ -9,7 +9,7 @@ use Rattle.cdi.specs.Planning.{Counts, planned, tableAfter}
 use Rattle.cdi.proofs.Quiet.{impossible}
 use Rattle.plan.specs.declared.Planned.{Planned}
 use Rattle.plan.specs.declared.Planned.the-variants.{Accepted, Refused}
-use Rattle.plan.specs.Outlines.{Outline, outline, outlineOf, saidOf, answerOf}
+use Rattle.plan.specs.Outlines.{Outline, outlineOf, saidOf, answerOf}
 
 module _ {A : Type 0} where
   same-accepted : {x y : A} → accepted x ≡ accepted y → x ≡ y

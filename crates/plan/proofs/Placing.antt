@@ -3,7 +3,7 @@ use mathlib.Core.Path.{_≡_, refl, sym, ap, _∙_}
 use mathlib.Core.List.{List, _++_}
 use mathlib.Core.Bool.{cond}
 use mathlib.Core.Logic.{⊎-elim}
-use Prim.Native.Nat.{ℕ, suc, _+_, _-_, _*_, _≤_, _<_}
+use Prim.Native.Nat.{ℕ, _+_, _-_, _*_, _≤_, _<_}
 use native.Mathlib.Nat.{zero-add}
 use native.Mathlib.Numerals.{add-one}
 use native.Mathlib.Omega.{arith}
@@ -12,11 +12,11 @@ use borrow.Author.Tests.{le-leb, lt-leb}
 use lib.Dec.{leb}
 use lib.IntN.{ℤ, pos}
 use lib.ListN.{length, take, drop, set, getD, length-set}
-use lib.Seq.{paste, paste-zero, paste-suc, take-length, take-all}
+use lib.Seq.{paste, paste-zero, paste-suc, take-length}
 use Rattle.cdi.specs.Faults.{fault, Answer, accepted, refused, _andThen_}
 use Rattle.cdi.specs.Walk.{total}
 use Rattle.cdi.specs.Table.{recordsOf, tableOf}
-use Rattle.cdi.specs.Planning.{Description, described, room, planned, countsOf, placed, tableAfter}
+use Rattle.cdi.specs.Planning.{Description, described, planned, countsOf, placed, tableAfter}
 use Rattle.cdi.proofs.Quiet.{impossible}
 use Rattle.scan.proofs.Tests.{lt-or-le}
 use Rattle.cdi.proofs.Room.{fits, fits-table, short, short-table, refuses, refuses-table}

@@ -9,7 +9,7 @@ use native.Mathlib.Omega.{arith}
 use borrow.Author.Tests.{le-leb, leb-true}
 use lib.Dec.{leb}
 use lib.IntN.{ℤ}
-use lib.ListN.{length, take, drop, getD}
+use lib.ListN.{length, take, getD}
 use lib.Seq.{take-at}
 use Rattle.cdi.specs.Words.{begins}
 use Rattle.cdi.specs.Faults.{fault, least, Answer, accepted, refused, _andThen_}
@@ -19,13 +19,13 @@ use Rattle.cdi.specs.Tree.{tree}
 use Rattle.cdi.specs.Rules.{elementFaults}
 use Rattle.cdi.specs.Walk.{Segment, Found, walk, total}
 use Rattle.cdi.specs.Table.{recordsOf, tableOf}
-use Rattle.cdi.specs.Plans.{isPlan, variableOf, locating}
+use Rattle.cdi.specs.Plans.{isPlan, locating}
 use Rattle.cdi.specs.Planning.{Description, Counts, describe, ending, characters, opening, cut, markup, elements, leaving, addresses, counting, described, countsOf, room, planned, placed, tableAfter}
-use Rattle.cdi.proofs.Quiet.{impossible, quiet, through, stage-passed, test-passed}
+use Rattle.cdi.proofs.Quiet.{impossible, through, test-passed}
 use Rattle.cdi.proofs.PlanOf.{length-table}
 use Rattle.cdi.proofs.Stages.{stages}
 use Rattle.scan.proofs.Tests.{lt-or-le}
-use Rattle.cdi.proofs.Room.{fits, fits-table, short, refuses-table, short-table}
+use Rattle.cdi.proofs.Room.{fits, fits-table, refuses-table, short-table}
 use Rattle.cdi.proofs.Zero.{NoZero, planned-alike, table-alike}
 use Rattle.cdi.proofs.Promises.{table-is-plan, table-locates, nth-is, nth-none}
 use Rattle.plan.specs.declared.Planned.{Planned}

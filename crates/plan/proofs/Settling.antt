@@ -1,7 +1,7 @@
 -- Stages 8 to 12: what was summed up over the elements of a text without faults of stages 4 to 7 settles its outline.
 use mathlib.Core.Path.{_≡_, refl, sym, ap, _∙_}
 use mathlib.Core.List.{List, []}
-use mathlib.Core.Bool.{Bool, true, false, cond}
+use mathlib.Core.Bool.{true, false}
 use mathlib.Core.Option.{none, some}
 use mathlib.Core.Logic.{⊎-elim}
 use Prim.Native.Nat.{ℕ, _*_, _≤_, _<_, min}
@@ -18,7 +18,7 @@ use Rattle.cdi.specs.Rules.{elementFaults}
 use Rattle.cdi.specs.Walk.{total}
 use Rattle.cdi.specs.Table.{tableOf, recordsOf}
 use Rattle.cdi.specs.Planning.{Description, describe, elements, leaving, addresses, counting}
-use Rattle.cdi.proofs.Quiet.{impossible, quiet}
+use Rattle.cdi.proofs.Quiet.{quiet}
 use Rattle.cdi.proofs.PlanOf.{length-table}
 use Rattle.scan.proofs.Tests.{lt-or-le}
 use Rattle.rules.specs.declared.Fault.{Fault as Blame}

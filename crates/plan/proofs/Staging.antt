@@ -3,21 +3,21 @@ use mathlib.Core.Path.{_≡_, refl, sym, ap, _∙_}
 use mathlib.Core.List.{List, [], _∷_}
 use mathlib.Core.Bool.{Bool, true, false, cond}
 use mathlib.Core.Option.{Option, none, some}
-use Prim.Native.Nat.{ℕ, suc, _+_, _-_, _≤_, _<_, min}
+use Prim.Native.Nat.{ℕ, _-_, _≤_, _<_, min}
 use native.Mathlib.Omega.{arith}
 use borrow.Author.Needs.{needs}
 use lib.Dec.{eqb, leb}
 use lib.IntN.{ℤ}
 use lib.ListN.{length, take, drop, length-take}
-use Rattle.cdi.specs.Words.{given, _>>=_, begins}
+use Rattle.cdi.specs.Words.{given, begins}
 use Rattle.cdi.specs.Faults.{Fault, fault, least, Answer, accepted, refused, _andThen_, stage}
-use Rattle.cdi.specs.Text.{zeroFrom, endOf, content, badCharacter, firstLine}
+use Rattle.cdi.specs.Text.{endOf, badCharacter, firstLine}
 use Rattle.cdi.specs.Markup.{reading, markupFaults}
-use Rattle.cdi.specs.Tree.{Nodes, tree}
+use Rattle.cdi.specs.Tree.{tree}
 use Rattle.cdi.specs.Planning.{ending, characters, opening, cut, markup, described}
 use Rattle.cdi.proofs.Quiet.{impossible}
 use Rattle.cdi.proofs.Tests.{both-right}
-use Rattle.cdi.proofs.Stages.{content-short}
+use Rattle.cdi.proofs.Stages.{first-zero}
 use Rattle.text.specs.Answers as T
 use Rattle.text.specs.declared.End.{End}
 use Rattle.text.specs.declared.End.the-variants as end
@@ -31,22 +31,13 @@ use Rattle.gauge.specs.declared.Leaves.the-variants.{Never, At}
 use Rattle.pass.specs.declared.sums.State.{State}
 use Rattle.pass.specs.declared.Outcome.{Outcome}
 use Rattle.pass.specs.declared.Outcome.the-variants as outcome
-use Rattle.pass.specs.Sums.{atFirst, Fit, recordsOf}
+use Rattle.pass.specs.Sums.{atFirst, recordsOf}
 use Rattle.pass.specs.Folding.{Folded, folded, foldNodes}
 use Rattle.pass.specs.Answers as A
 use Rattle.plan.specs.declared.Planned.{Planned}
 use Rattle.plan.specs.declared.Planned.the-variants.{Accepted, Refused}
-use Rattle.plan.specs.Outlines.{outlined, outlineOf, ofContent, ofMarkup, ofTree, saidOf, Few, countedBy, addressedBy, ruledBy, settledOf}
+use Rattle.plan.specs.Outlines.{outlineOf, ofContent, ofMarkup, ofTree, saidOf, Few, countedBy, addressedBy, ruledBy, settledOf}
 use Rattle.plan.proofs.Settling.{settles}
-
-first-zero : (at : ℕ) (s : List ℕ) (e : ℕ) → zeroFrom at s ≡ some e → e < at + length s
-unfolding zeroFrom
-first-zero at [] e q = impossible (cc)
-first-zero at (x ∷ s) e q = by (eqb x 0) refl (first-zero (at + 1) s e)
-  where
-    by : (t : Bool) → eqb x 0 ≡ t → (zeroFrom (at + 1) s ≡ some e → e < at + 1 + length s) → e < at + suc (length s)
-    by true p others = let w = rw p at q in let z : at ≡ e = cc in omega arith
-    by false p others = let z = others (rw p at q) in omega arith
 
 -- ── 4 to 7 ──
 

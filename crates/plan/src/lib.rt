@@ -7,7 +7,7 @@ ghost use Prim.Native.Nat.{_*_, _≤_};
 ghost use lib.Dec.{leb};
 ghost use lib.ListN.{length, take};
 ghost use Rattle.cdi.specs.Planning.{planned, placed, tableAfter};
-ghost use Rattle.plan.specs.Outlines.{outlineOf, ofContent, saidOf, Few, answerOf, putOf};
+ghost use Rattle.plan.specs.Outlines.{outlineOf, saidOf, Few, answerOf, putOf};
 
 mod stages; // stages 2 to 12
 

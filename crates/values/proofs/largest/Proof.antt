@@ -1,5 +1,4 @@
 use Prim.Native.Nat.{_-_}
-use lib.ListN.{length}
 use Rattle.values.proofs.Complements.{most-of, Largest}
 use Rattle.values.proofs.largest.Statement.{statement}
 use Rattle.values.proofs.largest.Tie as tie
