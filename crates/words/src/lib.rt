@@ -1,0 +1,128 @@
+// What the text says of one element in its own content: one run of text, and the number that it is. A place stands for what is still to come at its
+// level.
+
+ghost use mathlib.Core.Path.{_≡_};
+ghost use Prim.Native.Nat.{_≤_};
+ghost use lib.ListN.{length};
+ghost use Rattle.cdi.specs.Rules.{ownNumber};
+ghost use Rattle.numbers.specs.Held.{numberOf};
+ghost use Rattle.pass.specs.Reading.{here};
+ghost use Rattle.children.specs.Siblings.{ahead};
+ghost use Rattle.words.specs.Own.{roleOf, isEnd, Told};
+use numbers::Number;
+use numbers::read_number;
+use pieces::Kind;
+use pieces::piece_at;
+
+// What a piece is to a text: a run of it, a reference in it, a child, what is dropped, its end, or no piece at all.
+pub enum Role {
+    Run,
+    Character,
+    Element,
+    Dropped,
+    End,
+    Nothing,
+}
+
+// One run of text and nothing else, from a place to before another.
+pub enum Own {
+    Text { from: usize, to: usize },
+    Not,
+}
+
+fn role_of(kind: Kind) -> Role
+    ensures { λ r. ⌜ r ≡ roleOf kind ⌝ }
+{
+    match kind {
+        Kind::Start => Role::Element,
+        Kind::Finish => Role::End,
+        Kind::Remark => Role::Dropped,
+        Kind::Refer => Role::Character,
+        Kind::Text => Role::Run,
+        Kind::Malformed => Role::Nothing,
+        Kind::Unsupported => Role::Nothing,
+    }
+}
+
+// Is nothing to come at the level of this place?
+fn is_end(s: &[u8], at: usize) -> bool
+    requires { ⌜ (at ≤ length (now s)) × (2 ≤ length (ahead (now s) at)) ⌝ }
+    ensures { λ r. ⌜ r ≡ isEnd (here (now (s .entry)) at) ⌝ }
+{
+    let mut i = at;
+    while i < s.len() {
+        let c = piece_at(s, i);
+        let kind = c.kind;
+        let role = role_of(kind);
+        match role {
+            Role::End => {
+                return true;
+            }
+            Role::Nothing => {
+                i = c.end;
+            }
+            Role::Run => {
+                return false;
+            }
+            Role::Character => {
+                return false;
+            }
+            Role::Element => {
+                return false;
+            }
+            Role::Dropped => {
+                return false;
+            }
+        }
+    }
+    true
+}
+
+// The one run of text that is to come at the level of this place, and nothing else.
+pub fn own_text(s: &[u8], at: usize) -> Own
+    requires { ⌜ (at ≤ length (now s)) × (2 ≤ length (ahead (now s) at)) ⌝ }
+    ensures { λ r. ⌜ Told (now (s .entry)) at r ⌝ }
+{
+    let mut i = at;
+    while i < s.len() {
+        let c = piece_at(s, i);
+        let kind = c.kind;
+        let role = role_of(kind);
+        match role {
+            Role::Run => {
+                if is_end(s, c.end) {
+                    return Own::Text { from: i, to: c.end };
+                }
+                return Own::Not;
+            }
+            Role::Nothing => {
+                i = c.end;
+            }
+            Role::End => {
+                return Own::Not;
+            }
+            Role::Character => {
+                return Own::Not;
+            }
+            Role::Element => {
+                return Own::Not;
+            }
+            Role::Dropped => {
+                return Own::Not;
+            }
+        }
+    }
+    Own::Not
+}
+
+// The number that the one run of text is.
+pub fn own_number(s: &[u8], at: usize) -> Number
+    requires { ⌜ (at ≤ length (now s)) × (2 ≤ length (ahead (now s) at)) ⌝ }
+    ensures { λ r. ⌜ r ≡ numberOf (ownNumber (here (now (s .entry)) at)) ⌝ }
+{
+    let own = own_text(s, at);
+    match own {
+        Own::Text { from, to } => read_number(&s[from..to]),
+        Own::Not => Number::Not,
+    }
+}
