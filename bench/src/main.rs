@@ -1,6 +1,11 @@
 //! Times the proved locator and listing beside plain Rust over the same tables, in one run, and prints ratios.
 
+mod answers;
 mod plain;
+mod planner;
+mod planning;
+mod stack;
+mod texts;
 
 use std::hint::black_box;
 use std::time::Instant;
@@ -124,6 +129,9 @@ fn tell(what: &str, each: usize, (proved, plain): (f64, f64)) {
 }
 
 fn main() {
+    if planning::asked() {
+        return;
+    }
     let wide = || (0..40).map(|k| Item::Int(k % 3, [1, 2, 4, 8][k as usize % 4])).collect::<Vec<_>>();
     let mut nested = vec![Item::Int(0, 1), Item::Int(1, 2)];
     for level in 0..20 {

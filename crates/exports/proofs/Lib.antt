@@ -1,3 +1,3 @@
--- The laws of the timed functions.
 pub mod Told
 pub mod Once
+pub mod Plans

@@ -1,2 +1,3 @@
 -- What the timed functions give.
 pub mod Addresses
+pub mod Plannings

@@ -8,6 +8,9 @@ ghost use Rattle.cdi.specs.Walk.{walk};
 ghost use Rattle.locate.specs.Finding.{toldOf};
 ghost use Rattle.listing.specs.Batch.{batch, listed};
 ghost use Rattle.exports.specs.Addresses.{addressIn};
+
+pub mod planning; // the planner
+
 use locate::Located;
 
 // In place of an address, where there is none.

@@ -1,0 +1,343 @@
+//! The table of elements: children in order, attributes, numbers, an int's bounds.
+
+use super::markup::Attribute;
+
+/// The row of an element; of those that hold a number or text only, how they are judged.
+#[derive(Debug, Clone, Copy, PartialEq, Eq)]
+pub enum Row {
+    Cdi,
+    Identification,
+    Acdi,
+    Segment,
+    Group,
+    Int,
+    Chars,
+    Eventid,
+    Float,
+    Map,
+    IntMap,
+    Relation,
+    IntRelation,
+    Text,
+    Min,
+    Max,
+    Number,
+    Unknown,
+}
+
+impl Row {
+    pub fn holds_children(self) -> bool {
+        !matches!(self, Row::Text | Row::Min | Row::Max | Row::Number | Row::Unknown)
+    }
+
+    /// The kind of its record.
+    pub fn kind(self) -> Option<i64> {
+        match self {
+            Row::Segment => Some(1),
+            Row::Group => Some(2),
+            Row::Int => Some(3),
+            Row::Chars => Some(4),
+            Row::Eventid => Some(5),
+            Row::Float => Some(6),
+            _ => None,
+        }
+    }
+
+    /// Any number of them may stand in their parent.
+    pub fn may_repeat(self) -> bool {
+        self.kind().is_some() || matches!(self, Row::Relation | Row::IntRelation)
+    }
+}
+
+/// The children that a relation needs: its entries 1 and 2.
+pub const BOTH: u8 = 0b110;
+
+pub fn root(name: &[u8]) -> Row {
+    if name == b"cdi" {
+        Row::Cdi
+    } else {
+        Row::Unknown
+    }
+}
+
+/// The entry of a child in its parent's row, from 1 on, and the child's own row.
+pub fn child(parent: Row, name: &[u8]) -> Option<(u8, Row)> {
+    match parent {
+        Row::Cdi => match name {
+            b"identification" => Some((1, Row::Identification)),
+            b"acdi" => Some((2, Row::Acdi)),
+            b"segment" => Some((3, Row::Segment)),
+            _ => None,
+        },
+        Row::Identification => match name {
+            b"manufacturer" => Some((1, Row::Text)),
+            b"model" => Some((2, Row::Text)),
+            b"hardwareVersion" => Some((3, Row::Text)),
+            b"softwareVersion" => Some((4, Row::Text)),
+            b"map" => Some((5, Row::Map)),
+            _ => None,
+        },
+        Row::Segment | Row::Group => match name {
+            b"name" => Some((1, Row::Text)),
+            b"description" => Some((2, Row::Text)),
+            b"repname" if parent == Row::Group => Some((3, Row::Text)),
+            _ => Some((4, data(name)?)),
+        },
+        Row::Int => match name {
+            b"min" => Some((3, Row::Min)),
+            b"max" => Some((4, Row::Max)),
+            b"default" => Some((5, Row::Number)),
+            b"map" => Some((6, Row::IntMap)),
+            _ => named(name),
+        },
+        Row::Float => match name {
+            b"min" => Some((3, Row::Text)),
+            b"max" => Some((4, Row::Text)),
+            b"default" => Some((5, Row::Text)),
+            b"map" => Some((6, Row::Map)),
+            _ => named(name),
+        },
+        Row::Chars | Row::Eventid if name == b"map" => Some((3, Row::Map)),
+        Row::Map if name == b"relation" => Some((3, Row::Relation)),
+        Row::IntMap if name == b"relation" => Some((3, Row::IntRelation)),
+        Row::Chars | Row::Eventid | Row::Map | Row::IntMap => named(name),
+        Row::Relation | Row::IntRelation => match name {
+            b"property" if parent == Row::IntRelation => Some((1, Row::Number)),
+            b"property" => Some((1, Row::Text)),
+            b"value" => Some((2, Row::Text)),
+            _ => None,
+        },
+        Row::Acdi | Row::Text | Row::Min | Row::Max | Row::Number | Row::Unknown => None,
+    }
+}
+
+/// A data element.
+fn data(name: &[u8]) -> Option<Row> {
+    match name {
+        b"group" => Some(Row::Group),
+        b"int" => Some(Row::Int),
+        b"string" => Some(Row::Chars),
+        b"eventid" => Some(Row::Eventid),
+        b"float" => Some(Row::Float),
+        _ => None,
+    }
+}
+
+/// The first two entries of most rows.
+fn named(name: &[u8]) -> Option<(u8, Row)> {
+    match name {
+        b"name" => Some((1, Row::Text)),
+        b"description" => Some((2, Row::Text)),
+        _ => None,
+    }
+}
+
+/// What a tag's attributes say: origin or offset, space or size, replication, and the least number of their faults.
+pub struct Fields {
+    pub start: i64,
+    pub extra: i64,
+    pub copies: i64,
+    pub fault: Option<u8>,
+}
+
+/// The attributes of one tag, as they are asked for.
+struct Given<'a, 'b> {
+    attributes: &'b [Attribute<'a>],
+    known: usize,
+    fault: Option<u8>,
+}
+
+impl<'a> Given<'a, '_> {
+    fn blame(&mut self, number: u8) {
+        self.fault = Some(self.fault.map_or(number, |least| least.min(number)));
+    }
+
+    fn find(&mut self, name: &[u8]) -> Option<&'a [u8]> {
+        let found = self.attributes.iter().find(|attribute| attribute.name == name)?;
+        self.known += 1;
+        Some(found.value)
+    }
+
+    fn required(&mut self, name: &[u8]) -> Option<&'a [u8]> {
+        let found = self.find(name);
+        if found.is_none() {
+            self.blame(8);
+        }
+        found
+    }
+
+    /// A number in this range, or the other one where it has a fault or isn't there.
+    fn ranged(&mut self, text: Option<&[u8]>, least: i64, greatest: i64, other: i64) -> i64 {
+        let Some(text) = text else { return other };
+        match number(text) {
+            Number::Value(value) if (least as i128..=greatest as i128).contains(&value) => return value as i64,
+            Number::Not => self.blame(9),
+            _ => self.blame(10),
+        }
+        other
+    }
+
+    fn optional(&mut self, name: &[u8], least: i64, greatest: i64, other: i64) -> i64 {
+        let text = self.find(name);
+        self.ranged(text, least, greatest, other)
+    }
+
+    fn offset(&mut self) -> i64 {
+        self.optional(b"offset", i32::MIN as i64, i32::MAX as i64, 0)
+    }
+
+    fn fixed(&mut self, name: &[u8], wanted: &[u8]) {
+        if self.required(name).is_some_and(|value| value != wanted) {
+            self.blame(8);
+        }
+    }
+
+    /// A size that is one of these texts of one digit, or 0.
+    fn size(&mut self, text: &[u8], sizes: &[u8]) -> i64 {
+        match text {
+            [digit] if sizes.contains(digit) => (digit - b'0') as i64,
+            _ => {
+                self.blame(10);
+                0
+            }
+        }
+    }
+}
+
+/// The attributes of an element by its row.
+pub fn fields(row: Row, attributes: &[Attribute]) -> Fields {
+    let mut given = Given { attributes, known: 0, fault: None };
+    let (mut start, mut extra, mut copies) = (0, 0, 1);
+    match row {
+        Row::Cdi => {
+            given.fixed(b"xmlns:xsi", b"http://www.w3.org/2001/XMLSchema-instance");
+            given.fixed(b"xsi:noNamespaceSchemaLocation", b"http://openlcb.org/schema/cdi/1/3/cdi.xsd");
+        }
+        Row::Acdi => {
+            given.optional(b"fixed", 0, 255, 0);
+            given.optional(b"var", 0, 255, 0);
+        }
+        Row::Segment => {
+            let space = given.required(b"space");
+            extra = given.ranged(space, 0, 255, 0);
+            start = given.optional(b"origin", 0, i32::MAX as i64, 0);
+        }
+        Row::Group => {
+            start = given.offset();
+            copies = given.optional(b"replication", 1, i32::MAX as i64, 1);
+        }
+        Row::Int => {
+            start = given.offset();
+            let text = given.find(b"size").unwrap_or(b"1");
+            extra = given.size(text, b"1248");
+        }
+        Row::Chars => {
+            start = given.offset();
+            let size = given.required(b"size");
+            extra = given.ranged(size, 1, 65_535, 1);
+        }
+        Row::Eventid => {
+            start = given.offset();
+            extra = 8;
+        }
+        Row::Float => {
+            start = given.offset();
+            if let Some(text) = given.required(b"size") {
+                extra = given.size(text, b"248");
+            }
+            if given.find(b"formatting").is_some_and(|text| !is_formatting(text)) {
+                given.blame(8);
+            }
+        }
+        _ => {}
+    }
+    if given.known < attributes.len() {
+        given.blame(8);
+    }
+    Fields { start, extra, copies, fault: given.fault }
+}
+
+/// `%`, digits, perhaps `.` and digits, `f`.
+fn is_formatting(text: &[u8]) -> bool {
+    let [b'%', middle @ .., b'f'] = text else { return false };
+    let mut parts = middle.splitn(2, |&byte| byte == b'.');
+    parts.all(|digits| digits.iter().all(u8::is_ascii_digit))
+}
+
+enum Number {
+    Not,
+    /// More than 64 bits, which no range allows.
+    Huge,
+    Value(i128),
+}
+
+fn number(text: &[u8]) -> Number {
+    let (negative, digits) = match text {
+        [b'-', digits @ ..] => (true, digits),
+        _ => (false, text),
+    };
+    if digits.is_empty() || !digits.iter().all(u8::is_ascii_digit) {
+        return Number::Not;
+    }
+    let mut magnitude = 0u64;
+    for digit in digits {
+        let next = magnitude.checked_mul(10).and_then(|tens| tens.checked_add((digit - b'0') as u64));
+        let Some(next) = next else { return Number::Huge };
+        magnitude = next;
+    }
+    Number::Value(if negative { -(magnitude as i128) } else { magnitude as i128 })
+}
+
+/// The number in min, max, default and property of an int, or the number of its fault.
+pub fn long_number(text: &[u8]) -> Result<i128, u8> {
+    match number(text) {
+        Number::Value(value) if value >= i64::MIN as i128 => Ok(value),
+        Number::Not => Err(9),
+        _ => Err(10),
+    }
+}
+
+#[derive(Clone, Copy, Default)]
+pub enum Bound {
+    #[default]
+    Missing,
+    Faulty,
+    Is {
+        value: i128,
+        place: usize,
+    },
+}
+
+/// An int's size, 0 where it has a fault, and its bounds.
+#[derive(Default)]
+pub struct Bounds {
+    pub size: i64,
+    pub min: Bound,
+    pub max: Bound,
+}
+
+impl Bounds {
+    /// The place of the least fault of bounds that have no other: each must be storable, and then min at most max.
+    pub fn fault(&self, int: usize) -> Option<usize> {
+        if self.size == 0 || matches!(self.min, Bound::Faulty) || matches!(self.max, Bound::Faulty) {
+            return None;
+        }
+        let bits = 8 * self.size as u32;
+        let signed = matches!(self.min, Bound::Is { value: ..0, .. });
+        let least = if signed { -(1i128 << (bits - 1)) } else { 0 };
+        let greatest = (1i128 << (bits - signed as u32)) - 1;
+        let unstored = |bound: &Bound| match *bound {
+            Bound::Is { value, place } if value < least || value > greatest => Some(place),
+            _ => None,
+        };
+        let (min, max) = (unstored(&self.min), unstored(&self.max));
+        if min.is_some() || max.is_some() {
+            return min.into_iter().chain(max).min();
+        }
+        match (self.min, self.max) {
+            (Bound::Is { value: min, .. }, Bound::Is { value: max, .. }) if min > max => Some(int),
+            (Bound::Missing, Bound::Is { value: max, .. }) if max < 0 => Some(int),
+            _ => None,
+        }
+    }
+}

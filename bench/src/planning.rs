@@ -1,0 +1,124 @@
+//! Planning: the proved planner beside the plain one, on the same texts in one run.
+
+use crate::answers::{answer_all, lent};
+use crate::planner::{self, Counts, Refusal};
+use crate::{stack, texts};
+use std::hint::black_box;
+use std::time::Instant;
+
+extern "C" {
+    fn timed_plan(
+        text: *const u8,
+        length: usize,
+        table: *mut i64,
+        room: usize,
+        first: &mut usize,
+        variables: &mut u64,
+    ) -> usize;
+}
+
+pub type Answer = Result<Counts, Refusal>;
+type Planner = fn(&[u8], &mut [i64]) -> Answer;
+
+/// The proved planner.
+fn proved(text: &[u8], table: &mut [i64]) -> Answer {
+    let (mut first, mut variables) = (0, 0);
+    let number =
+        unsafe { timed_plan(text.as_ptr(), text.len(), table.as_mut_ptr(), table.len(), &mut first, &mut variables) };
+    if number == 0 {
+        Ok(Counts { records: first, variables })
+    } else {
+        Err(Refusal { number: number as u8, place: first })
+    }
+}
+
+/// The plain one, kept a call of its own as the proved one is.
+#[inline(never)]
+fn plain(text: &[u8], table: &mut [i64]) -> Answer {
+    planner::plan(text, table)
+}
+
+/// The numbers of as many records as a text can have.
+const ROOM: usize = 8 * 4095;
+
+/// The answer of both, which must be the same, and so must the tables.
+fn agreed(what: &str, text: &[u8]) -> Answer {
+    let (mut mine, mut theirs) = (lent(ROOM), lent(ROOM));
+    let answer = proved(text, &mut mine);
+    assert_eq!(answer, plain(text, &mut theirs), "{what}");
+    assert!(mine == theirs, "{what}: the tables differ");
+    answer
+}
+
+/// The time of one call, over so many.
+fn time(plan: Planner, text: &[u8], table: &mut [i64], calls: usize) -> f64 {
+    let begun = Instant::now();
+    for _ in 0..calls {
+        let _ = black_box(plan(black_box(text), black_box(table)));
+    }
+    begun.elapsed().as_secs_f64() / calls as f64
+}
+
+/// The least times of the two, in turns.
+fn least(text: &[u8], calls: usize, rounds: usize) -> (f64, f64) {
+    let mut table = lent(ROOM);
+    let mut best = (f64::MAX, f64::MAX);
+    for _ in 0..rounds {
+        best.0 = best.0.min(time(proved, text, &mut table, calls));
+        best.1 = best.1.min(time(plain, text, &mut table, calls));
+    }
+    best
+}
+
+fn told(answer: Answer) -> String {
+    match answer {
+        Ok(counts) => format!("{} records, {} variables", counts.records, counts.variables),
+        Err(refusal) => format!("refused {} at {}", refusal.number, refusal.place),
+    }
+}
+
+/// Times both planners on each text, and measures the proved one's stack.
+fn measure(rounds: usize) {
+    let texts = [
+        ("2 KB", texts::ordinary(2_000), 50),
+        ("15 KB", texts::ordinary(15_000), 10),
+        ("60 KB", texts::ordinary(60_000), 4),
+        ("1,000,000 variables", texts::million(), 50),
+        ("24 levels", texts::deepest(), 4),
+        ("a tag of 64 KB", texts::widest(), 1),
+    ];
+    for (what, text, calls) in &texts {
+        let answer = agreed(what, text);
+        let (proved, plain) = least(text, *calls, rounds);
+        let (mine, theirs, ratio) = (proved * 1e6, plain * 1e6, proved / plain);
+        println!("planning, {what} ({} bytes, {}):", text.len(), told(answer));
+        println!("  proved {mine:.1} us, plain {theirs:.1} us, ratio {ratio:.2}");
+    }
+    for (what, text, _) in &texts {
+        let mut table = lent(ROOM);
+        let bytes = stack::used(|| {
+            let _ = black_box(proved(text, &mut table));
+        });
+        println!("stack of one proved call, {what}: {bytes} bytes");
+    }
+}
+
+/// Calls one planner many times on one text, for a profiler to look at.
+fn repeat(plan: Planner, text: &[u8], calls: usize) {
+    println!("{:.1} us", 1e6 * time(plan, text, &mut lent(ROOM), calls));
+}
+
+/// Does what the arguments ask of planning; false where they ask nothing.
+pub fn asked() -> bool {
+    let words: Vec<String> = std::env::args().skip(1).collect();
+    let words: Vec<&str> = words.iter().map(String::as_str).collect();
+    match words.as_slice() {
+        ["planning"] => measure(200),
+        ["answers", "plain"] => answer_all(plain).expect("cases"),
+        ["answers", "proved"] => answer_all(proved).expect("cases"),
+        ["repeat", "plain"] => repeat(plain, &texts::ordinary(60_000), 200),
+        ["repeat", "proved"] => repeat(proved, &texts::ordinary(60_000), 200),
+        _ => return false,
+    }
+    true
+}
