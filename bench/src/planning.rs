@@ -77,35 +77,52 @@ fn told(answer: Answer) -> String {
     }
 }
 
-/// Times both planners on each text, and measures the proved one's stack.
-fn measure(rounds: usize) {
-    let texts = [
-        ("2 KB", texts::ordinary(2_000), 50),
-        ("15 KB", texts::ordinary(15_000), 10),
-        ("60 KB", texts::ordinary(60_000), 4),
-        ("1,000,000 variables", texts::million(), 50),
-        ("24 levels", texts::deepest(), 4),
-        ("a tag of 64 KB", texts::widest(), 1),
-    ];
-    for (what, text, calls) in &texts {
-        let answer = agreed(what, text);
-        let (proved, plain) = least(text, *calls, rounds);
-        let (mine, theirs, ratio) = (proved * 1e6, plain * 1e6, proved / plain);
-        println!("planning, {what} ({} bytes, {}):", text.len(), told(answer));
-        println!("  proved {mine:.1} us, plain {theirs:.1} us, ratio {ratio:.2}");
-    }
-    for (what, text, _) in &texts {
-        let mut table = lent(ROOM);
-        let bytes = stack::used(|| {
-            let _ = black_box(proved(text, &mut table));
-        });
-        println!("stack of one proved call, {what}: {bytes} bytes");
-    }
+type Text = (&'static str, Vec<u8>);
+
+fn texts() -> [Text; 6] {
+    [
+        ("2 KB", texts::ordinary(2_000)),
+        ("15 KB", texts::ordinary(15_000)),
+        ("60 KB", texts::ordinary(60_000)),
+        ("1,000,000 variables", texts::million()),
+        ("24 levels", texts::deepest()),
+        ("a tag of 64 KB", texts::widest()),
+    ]
 }
 
-/// Calls one planner many times on one text, for a profiler to look at.
-fn repeat(plan: Planner, text: &[u8], calls: usize) {
-    println!("{:.1} us", 1e6 * time(plan, text, &mut lent(ROOM), calls));
+/// Times both planners on a text.
+fn compare((what, text): &Text) {
+    let answer = agreed(what, text);
+    let (proved, plain) = least(text, 1 + 100_000 / text.len(), 200);
+    let (mine, theirs, ratio) = (proved * 1e6, plain * 1e6, proved / plain);
+    println!("planning, {what} ({} bytes, {}):", text.len(), told(answer));
+    println!("  proved {mine:.1} us, plain {theirs:.1} us, ratio {ratio:.2}");
+}
+
+/// Measures the stack of one proved call.
+fn fathom((what, text): &Text) {
+    let mut table = lent(ROOM);
+    let bytes = stack::used(|| {
+        let _ = black_box(proved(text, &mut table));
+    });
+    println!("stack of one proved call, {what}: {bytes} bytes");
+}
+
+fn measure() {
+    let texts = texts();
+    texts.iter().for_each(compare);
+    texts.iter().for_each(fathom);
+    fathom(&("a tag of 64 KB inside level 24", texts::steepest()));
+}
+
+/// Calls one planner many times on a text of this length, for a profiler to look at.
+fn repeat(plan: Planner, length: usize, calls: usize) {
+    let text = texts::ordinary(length);
+    println!("{} bytes, {:.1} us", text.len(), 1e6 * time(plan, &text, &mut lent(ROOM), calls));
+}
+
+fn number(word: &str) -> usize {
+    word.parse().expect("a number")
 }
 
 /// Does what the arguments ask of planning; false where they ask nothing.
@@ -113,11 +130,11 @@ pub fn asked() -> bool {
     let words: Vec<String> = std::env::args().skip(1).collect();
     let words: Vec<&str> = words.iter().map(String::as_str).collect();
     match words.as_slice() {
-        ["planning"] => measure(200),
+        ["planning"] => measure(),
         ["answers", "plain"] => answer_all(plain).expect("cases"),
         ["answers", "proved"] => answer_all(proved).expect("cases"),
-        ["repeat", "plain"] => repeat(plain, &texts::ordinary(60_000), 200),
-        ["repeat", "proved"] => repeat(proved, &texts::ordinary(60_000), 200),
+        ["repeat", "plain", length, calls] => repeat(plain, number(length), number(calls)),
+        ["repeat", "proved", length, calls] => repeat(proved, number(length), number(calls)),
         _ => return false,
     }
     true

@@ -60,10 +60,16 @@ pub fn million() -> Vec<u8> {
     text.into_bytes()
 }
 
+const SEGMENT: &str = "<segment space=\"253\">";
+
+/// The start tags of all levels down to this one.
+fn levels(last: usize) -> String {
+    format!("{HEAD}{SEGMENT}{}", "<group replication=\"1\">".repeat(last - 2))
+}
+
 /// All 24 levels, and as many elements on the last as fit.
 pub fn deepest() -> Vec<u8> {
-    let mut text = format!("{HEAD}<segment space=\"253\">");
-    text.push_str(&"<group replication=\"1\">".repeat(21));
+    let mut text = levels(23);
     while text.len() < 64_500 {
         text.push_str("<int size=\"8\" offset=\"2\"/>");
     }
@@ -72,14 +78,29 @@ pub fn deepest() -> Vec<u8> {
     text.into_bytes()
 }
 
-/// One tag that takes nearly all the bytes that a text may have, with thousands of attributes.
-pub fn widest() -> Vec<u8> {
-    let mut text = format!("{HEAD}<segment space=\"253\"");
+/// Thousands of attributes, up to this many bytes.
+fn attributes(text: &mut String, length: usize) {
     let mut n = 0;
-    while text.len() < 65_000 {
+    while text.len() < length {
         let _ = write!(text, " a{n}=''");
         n += 1;
     }
-    text.push_str("/></cdi>\0");
+}
+
+/// One tag that takes nearly all the bytes that a text may have.
+pub fn widest() -> Vec<u8> {
+    let mut text = levels(2);
+    text.push_str("<int");
+    attributes(&mut text, 65_000);
+    text.push_str("/></segment></cdi>\0");
+    text.into_bytes()
+}
+
+/// Such a tag inside an element of level 24, with a name that stands twice.
+pub fn steepest() -> Vec<u8> {
+    let mut text = levels(24);
+    text.push_str("<int");
+    attributes(&mut text, 65_000);
+    text.push_str(" a1=''/>\0");
     text.into_bytes()
 }
