@@ -186,6 +186,12 @@ impl<'a> Given<'a, '_> {
         self.optional(b"offset", i32::MIN as i64, i32::MAX as i64, 0)
     }
 
+    /// A number in this range that must be there, or the other one.
+    fn needed(&mut self, name: &[u8], least: i64, greatest: i64, other: i64) -> i64 {
+        let text = self.required(name);
+        self.ranged(text, least, greatest, other)
+    }
+
     fn fixed(&mut self, name: &[u8], wanted: &[u8]) {
         if self.required(name).is_some_and(|value| value != wanted) {
             self.blame(8);
@@ -202,55 +208,53 @@ impl<'a> Given<'a, '_> {
             }
         }
     }
+
+    fn int_size(&mut self) -> i64 {
+        let text = self.find(b"size").unwrap_or(b"1");
+        self.size(text, b"1248")
+    }
+
+    fn float_size(&mut self) -> i64 {
+        if self.find(b"formatting").is_some_and(|text| !is_formatting(text)) {
+            self.blame(8);
+        }
+        self.required(b"size").map_or(0, |text| self.size(text, b"248"))
+    }
+
+    /// The attributes of elements without a record.
+    fn other_rows(&mut self, row: Row) {
+        if row == Row::Cdi {
+            self.fixed(b"xmlns:xsi", b"http://www.w3.org/2001/XMLSchema-instance");
+            self.fixed(b"xsi:noNamespaceSchemaLocation", b"http://openlcb.org/schema/cdi/1/3/cdi.xsd");
+        }
+        if row == Row::Acdi {
+            self.optional(b"fixed", 0, 255, 0);
+            self.optional(b"var", 0, 255, 0);
+        }
+    }
+
+    /// Origin or offset, space or size, replication.
+    fn numbers(&mut self, row: Row) -> (i64, i64, i64) {
+        let most = i32::MAX as i64;
+        match row {
+            Row::Segment => (self.optional(b"origin", 0, most, 0), self.needed(b"space", 0, 255, 0), 1),
+            Row::Group => (self.offset(), 0, self.optional(b"replication", 1, most, 1)),
+            Row::Int => (self.offset(), self.int_size(), 1),
+            Row::Chars => (self.offset(), self.needed(b"size", 1, 65_535, 1), 1),
+            Row::Eventid => (self.offset(), 8, 1),
+            Row::Float => (self.offset(), self.float_size(), 1),
+            _ => {
+                self.other_rows(row);
+                (0, 0, 1)
+            }
+        }
+    }
 }
 
 /// The attributes of an element by its row.
 pub fn fields(row: Row, attributes: &[Attribute]) -> Fields {
     let mut given = Given { attributes, known: 0, fault: None };
-    let (mut start, mut extra, mut copies) = (0, 0, 1);
-    match row {
-        Row::Cdi => {
-            given.fixed(b"xmlns:xsi", b"http://www.w3.org/2001/XMLSchema-instance");
-            given.fixed(b"xsi:noNamespaceSchemaLocation", b"http://openlcb.org/schema/cdi/1/3/cdi.xsd");
-        }
-        Row::Acdi => {
-            given.optional(b"fixed", 0, 255, 0);
-            given.optional(b"var", 0, 255, 0);
-        }
-        Row::Segment => {
-            let space = given.required(b"space");
-            extra = given.ranged(space, 0, 255, 0);
-            start = given.optional(b"origin", 0, i32::MAX as i64, 0);
-        }
-        Row::Group => {
-            start = given.offset();
-            copies = given.optional(b"replication", 1, i32::MAX as i64, 1);
-        }
-        Row::Int => {
-            start = given.offset();
-            let text = given.find(b"size").unwrap_or(b"1");
-            extra = given.size(text, b"1248");
-        }
-        Row::Chars => {
-            start = given.offset();
-            let size = given.required(b"size");
-            extra = given.ranged(size, 1, 65_535, 1);
-        }
-        Row::Eventid => {
-            start = given.offset();
-            extra = 8;
-        }
-        Row::Float => {
-            start = given.offset();
-            if let Some(text) = given.required(b"size") {
-                extra = given.size(text, b"248");
-            }
-            if given.find(b"formatting").is_some_and(|text| !is_formatting(text)) {
-                given.blame(8);
-            }
-        }
-        _ => {}
-    }
+    let (start, extra, copies) = given.numbers(row);
     if given.known < attributes.len() {
         given.blame(8);
     }

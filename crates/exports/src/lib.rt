@@ -1,4 +1,4 @@
-// The locator and listing under C names, so that bench/ can time them. No part of the library.
+// The locator, listing and planner under C names, so that bench/ can time them. No part of the library.
 
 ghost use mathlib.Core.Path.{_≡_};
 ghost use mathlib.Core.Bool.{true};
