@@ -1,3 +1,4 @@
+-- The laws of the timed functions.
 pub mod Told
-pub mod Once
 pub mod Plans
+pub mod Once

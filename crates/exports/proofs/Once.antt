@@ -6,10 +6,12 @@ use lib.ListN.{length}
 use lib.IntN.{ℤ}
 use Rattle.cdi.specs.Walk.{walk}
 use Rattle.cdi.specs.Plans.{segmentsOf, variableOf, locating}
+use Rattle.cdi.specs.Planning.{planned, tableAfter}
 use Rattle.locate.proofs.Once.{once}
 use Rattle.listing.specs.Batch.{batch, listed}
 use Rattle.listing.proofs.Once.{list-once}
 use Rattle.exports.specs.Addresses.{addressIn}
+use Rattle.exports.specs.Plannings.{numberIn, firstIn, variablesIn}
 
 pub timed-locate-once : (t : List ℤ) (n r s : ℕ) → r ≡ addressIn (locating t n) → s ≡ addressIn (locating t n) → r ≡ s
 timed-locate-once t n r s p q = once p q
@@ -22,3 +24,9 @@ pub timed-list-once : (t : List ℤ) (n : ℕ) (o : List ℕ) (r s : ℕ) (p q :
     → s ≡ length (batch (walk (segmentsOf t)) n o) → q ≡ listed (walk (segmentsOf t)) n o
     → (r ≡ s) × (p ≡ q)
 timed-list-once = list-once
+
+pub timed-plan-once : (b : List ℕ) (t : List ℤ) (r s f g v w : ℕ) (p q : List ℤ)
+    → r ≡ numberIn (planned b t) → f ≡ firstIn (planned b t) → v ≡ variablesIn (planned b t) → p ≡ tableAfter b t
+    → s ≡ numberIn (planned b t) → g ≡ firstIn (planned b t) → w ≡ variablesIn (planned b t) → q ≡ tableAfter b t
+    → (r ≡ s) × (f ≡ g) × (v ≡ w) × (p ≡ q)
+timed-plan-once b t r s f g v w p q a c d e i j k l = (once a i, once c j, once d k, once e l)
