@@ -80,7 +80,7 @@ fn eight_at(b: &[u8], at: usize) -> u64
 }
 
 // Two's complement.
-fn signed(v: u64) -> i64 {
+pub fn signed(v: u64) -> i64 {
     if v < 0x8000_0000_0000_0000 {
         return v as i64;
     }

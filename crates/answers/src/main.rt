@@ -4,9 +4,11 @@
 ghost use Prim.Native.Nat.{_≤_, _<_};
 ghost use lib.ListN.{length};
 
+mod hash;
 mod input;
 mod leaves;
 mod out;
+mod plans;
 mod tables;
 
 use input::Byte;
@@ -118,6 +120,32 @@ fn located(table: &mut [i64], text: &mut [u8], out: &mut [u8], at: usize) -> Ste
     ended(out, to)
 }
 
+// The answer to a frame `P`: planning a text into a table of so many numbers.
+fn planned(text: &mut [u8], table: &mut [i64], out: &mut [u8], at: usize) -> Step
+    requires { ⌜ (at ≤ length (now out)) × (0 < length (now out)) ⌝ }
+    ensures { λ r. ⌜ r .at ≤ length (now (out .entry)) ⌝ }
+{
+    let Field::Is(numbers) = input::read_number() else {
+        return bad(out, at);
+    };
+    if (table.len() as u64) < numbers {
+        return bad(out, at);
+    }
+    let room = numbers as usize;
+    let Field::Is(n) = input::read_length(70000) else {
+        return bad(out, at);
+    };
+    if (text.len() as u64) < n {
+        return bad(out, at);
+    }
+    let size = n as usize;
+    if !input::read_bytes(&mut text[0..size]) {
+        return bad(out, at);
+    }
+    let to = plans::planned(&text[0..size], &mut table[0..room], out, at);
+    ended(out, to)
+}
+
 // Frames up to the end of the input, or to the first bad one.
 fn run(text: &mut [u8], table: &mut [i64], out: &mut [u8]) -> usize
     requires { ⌜ 0 < length (now out) ⌝ }
@@ -148,6 +176,9 @@ fn next(first: u8, text: &mut [u8], table: &mut [i64], out: &mut [u8], at: usize
     }
     if first == b'L' {
         return located(table, text, out, at);
+    }
+    if first == b'P' {
+        return planned(text, table, out, at);
     }
     bad(out, at)
 }

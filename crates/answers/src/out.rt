@@ -50,6 +50,17 @@ pub fn put_next(out: &mut [u8], at: usize, n: u64) -> usize
     put_number(out, to, n)
 }
 
+// A blank and 16 hexadecimal digits.
+pub fn put_hex(out: &mut [u8], at: usize, n: u64) -> usize
+    requires { ⌜ (at ≤ length (now out)) × (0 < length (now out)) ⌝ }
+    ensures { λ r. ⌜ r ≤ length (now (out .entry)) ⌝ }
+{
+    let to = put(out, at, b' ');
+    let mut digits = [0u8; 16];
+    let k = io::hex(n, 16, &mut digits);
+    put_all(out, to, &digits[0..k])
+}
+
 // What is left in the buffer is written out.
 pub fn flush(out: &[u8], at: usize)
     requires { ⌜ at ≤ length (now out) ⌝ }
