@@ -1,0 +1,4 @@
+-- Laws of the lines.
+pub mod Spelled
+pub mod Putting
+pub mod Listing

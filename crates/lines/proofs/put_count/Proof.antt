@@ -1,0 +1,15 @@
+use borrow.Author.Needs.{needs}
+use Rattle.lines.proofs.Putting.{parts}
+use Rattle.lines.proofs.put_count.Statement.{statement}
+use Rattle.lines.proofs.put_count.Tie as tie
+
+pub put-count-spec : {M : Type 1} → statement M
+put-count-spec =
+    tie.close (tie.spec
+    (λ c. search needs)
+    (λ c κs. search needs)
+    (λ c κs. search needs)
+    (λ c. search needs)
+    (λ c κs. search needs)
+    (λ c. search needs)
+    (λ c. search parts))

@@ -1,0 +1,18 @@
+use borrow.Author.Needs.{needs}
+use Rattle.lines.proofs.Putting.{parts}
+use Rattle.lines.proofs.put_refusal.Statement.{statement}
+use Rattle.lines.proofs.put_refusal.Tie as tie
+
+pub put-refusal-spec : {M : Type 1} → statement M
+put-refusal-spec =
+    tie.close (tie.spec
+    (λ c. search needs)
+    (λ c κs. search needs)
+    (λ c κs. search needs)
+    (λ c. search needs)
+    (λ c κs. search needs)
+    (λ c κs. search needs)
+    (λ c. search needs)
+    (λ c κs. search needs)
+    (λ c. search needs)
+    (λ c. search parts))

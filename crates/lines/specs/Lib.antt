@@ -1,0 +1,2 @@
+-- The bytes of lines.
+pub mod Bytes
