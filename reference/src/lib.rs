@@ -7,6 +7,7 @@ pub mod cases;
 pub mod description;
 pub mod frames;
 pub mod leaves;
+pub mod listing;
 pub mod number;
 pub mod pieces;
 pub mod plan;

@@ -1,14 +1,15 @@
 //! The commands of the reference program.
 
-use std::io::{self, BufReader, BufWriter, Write};
+use std::io::{self, BufReader, BufWriter, Read, Write};
 use std::process::ExitCode;
 
 use reference::cases::stats::Shares;
 use reference::cases::{Sort, Stream};
+use reference::listing::listing;
 use reference::{answer, frame, line, Frames};
 
 const USAGE: &str =
-    "usage: reference answers | reference cases --seed S --count N --kind plan|locate|access|all|leaf [--small] [--stats]";
+    "usage: reference answers | reference list | reference cases --seed S --count N --kind plan|locate|access|all|leaf [--small] [--stats]";
 
 /// Prints one line for each case of standard input.
 fn answers() -> io::Result<ExitCode> {
@@ -23,6 +24,18 @@ fn answers() -> io::Result<ExitCode> {
                 return Ok(ExitCode::from(1));
             }
         }
+    }
+    output.flush()?;
+    Ok(ExitCode::SUCCESS)
+}
+
+/// Prints the variables of the text on standard input, or its refusal, as the program `list` does.
+fn list() -> io::Result<ExitCode> {
+    let mut text = Vec::new();
+    io::stdin().lock().read_to_end(&mut text)?;
+    let mut output = BufWriter::new(io::stdout().lock());
+    for line in listing(&text) {
+        writeln!(output, "{line}")?;
     }
     output.flush()?;
     Ok(ExitCode::SUCCESS)
@@ -89,6 +102,7 @@ fn main() -> ExitCode {
     let words: Vec<&str> = arguments.iter().map(String::as_str).collect();
     let done = match words.split_first() {
         Some((&"answers", [])) => answers(),
+        Some((&"list", [])) => list(),
         Some((&"cases", rest)) => match options(rest) {
             Some(options) => cases(&options),
             None => usage(),
