@@ -1,0 +1,2 @@
+-- What was read.
+pub mod Sizes

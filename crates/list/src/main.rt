@@ -1,0 +1,121 @@
+// Lists the variables of a description that stands on standard input: their count and a line for each, or the refusal. The text is planned into
+// a table of 1,024 records, and the variables are read from that table alone, many at a time.
+
+ghost use mathlib.Core.Path.{_≡_};
+ghost use mathlib.Core.Bool.{true};
+ghost use mathlib.Core.List.{[]};
+ghost use Prim.Native.Nat.{_*_, _/_, _≤_};
+ghost use lib.ListN.{length, take};
+ghost use Rattle.cdi.specs.Walk.{walk};
+ghost use Rattle.cdi.specs.Plans.{segmentsOf, isPlan};
+ghost use Rattle.listing.specs.Batch.{batch};
+ghost use Rattle.lines.specs.Bytes.{linesOf};
+
+mod input;
+
+use input::Text;
+use input::read_text;
+use lines::put_count;
+use lines::put_lines;
+use lines::put_refusal;
+use listing::list;
+use plan::FIELDS;
+use plan::Planned;
+use plan::plan;
+
+// "at most 1,000,000"
+const MOST_VARIABLES: u64 = 1000000;
+
+// So many variables, and so many bytes for their lines.
+struct Batch {
+    count: usize,
+    size: usize,
+}
+
+// The lines of the variables n, n + 1, .. of a plan, as many as there is room for.
+fn lines_from(table: &[i64], n: u64, numbers: &mut [u64], out: &mut [u8]) -> Batch
+    requires { ⌜ (isPlan (now table) ≡ true) × (length (now numbers) / 5 * 92 ≤ length (now out)) × (n ≤ 1000000) ⌝ }
+    ensures put { λ r. ⌜ take (r .size) (now (out .exit)) ≡ linesOf [] n (batch (walk (segmentsOf (now (table .entry)))) n (now (numbers .entry))) ⌝ }
+    ensures all { λ r. ⌜ r .count ≡ length (batch (walk (segmentsOf (now (table .entry)))) n (now (numbers .entry))) ⌝ }
+    ensures ends { λ r. ⌜ (r .size ≤ length (now (out .entry))) × (r .count ≤ length (now (numbers .entry))) ⌝ }
+{
+    let count = list(table, n, numbers);
+    let size = put_lines(out, n, numbers, count);
+    Batch { count, size }
+}
+
+// Writes the lines of all variables of a plan.
+fn write_lines(table: &[i64], numbers: &mut [u64], out: &mut [u8]) -> bool
+    requires { ⌜ (isPlan (now table) ≡ true) × (length (now numbers) / 5 * 92 ≤ length (now out)) ⌝ }
+{
+    let mut n = 0;
+    while n < MOST_VARIABLES {
+        let told = lines_from(table, n, numbers, out);
+        let size = told.size;
+        if !io::write_all(1, &out[0..size]) {
+            return false;
+        }
+        if told.count == 0 {
+            return true;
+        }
+        n = n + told.count as u64;
+    }
+    true
+}
+
+fn write_refusal(number: usize, place: usize, out: &mut [u8]) -> bool
+    requires { ⌜ 64 ≤ length (now out) ⌝ }
+{
+    let size = put_refusal(out, number as u64, place as u64);
+    io::write_all(1, &out[0..size])
+}
+
+fn write_count(variables: u64, out: &mut [u8]) -> bool
+    requires { ⌜ 64 ≤ length (now out) ⌝ }
+{
+    let size = put_count(out, variables);
+    io::write_all(1, &out[0..size])
+}
+
+// Plans the text and writes what there is to say of it; false where it couldn't be written.
+fn answer(text: &[u8], table: &mut [i64], numbers: &mut [u64], out: &mut [u8]) -> bool
+    requires { ⌜ (64 ≤ length (now out)) × (length (now numbers) / 5 * 92 ≤ length (now out)) ⌝ }
+{
+    let told = plan(text, table);
+    match told {
+        Planned::Refused { number, place } => write_refusal(number, place, out),
+        Planned::Accepted { records, variables } => {
+            let size = FIELDS * records;
+            let written = write_count(variables, out);
+            if written {
+                return write_lines(&table[0..size], numbers, out);
+            }
+            false
+        }
+    }
+}
+
+// What went wrong goes to standard error.
+fn tell(what: &[u8]) {
+    io::write_all(2, what);
+}
+
+fn run(text: &mut [u8], table: &mut [i64], numbers: &mut [u64], out: &mut [u8])
+    requires { ⌜ (64 ≤ length (now out)) × (length (now numbers) / 5 * 92 ≤ length (now out)) ⌝ }
+{
+    let Text::Is(size) = read_text(text) else {
+        tell(b"list: standard input can't be read\n");
+        return;
+    };
+    if !answer(&text[0..size], table, numbers, out) {
+        tell(b"list: standard output can't be written\n");
+    }
+}
+
+fn main() {
+    let mut text = [0u8; 65536];
+    let mut table = [0i64; 8192];
+    let mut numbers = [0u64; 5120];
+    let mut out = [0u8; 94208];
+    run(&mut text, &mut table, &mut numbers, &mut out);
+}
