@@ -22,7 +22,7 @@ use text::is_utf8;
 
 // `end PLACE` or `refused 1 PLACE`
 pub fn ending(s: &[u8], out: &mut [u8], at: usize) -> usize
-    requires { ⌜ (at ≤ length (now out)) × (0 < length (now out)) ⌝ }
+    requires { ⌜ (at ≤ length (now out)) × (64 ≤ length (now out)) ⌝ }
     ensures { λ r. ⌜ r ≤ length (now (out .entry)) ⌝ }
 {
     let end = content_end(s);
@@ -40,7 +40,7 @@ pub fn ending(s: &[u8], out: &mut [u8], at: usize) -> usize
 
 // One word or the other.
 fn either(first: bool, a: &[u8], b: &[u8], out: &mut [u8], at: usize) -> usize
-    requires { ⌜ (at ≤ length (now out)) × (0 < length (now out)) ⌝ }
+    requires { ⌜ (at ≤ length (now out)) × (64 ≤ length (now out)) ⌝ }
     ensures { λ r. ⌜ r ≤ length (now (out .entry)) ⌝ }
 {
     if first {
@@ -50,7 +50,7 @@ fn either(first: bool, a: &[u8], b: &[u8], out: &mut [u8], at: usize) -> usize
 }
 
 fn place(bad: Place, out: &mut [u8], at: usize) -> usize
-    requires { ⌜ (at ≤ length (now out)) × (0 < length (now out)) ⌝ }
+    requires { ⌜ (at ≤ length (now out)) × (64 ≤ length (now out)) ⌝ }
     ensures { λ r. ⌜ r ≤ length (now (out .entry)) ⌝ }
 {
     match bad {
@@ -64,7 +64,7 @@ fn place(bad: Place, out: &mut [u8], at: usize) -> usize
 
 // `characters good` or `characters bad PLACE`, then whether the bytes are UTF-8 at all
 pub fn characters(s: &[u8], out: &mut [u8], at: usize) -> usize
-    requires { ⌜ (at ≤ length (now out)) × (0 < length (now out)) ⌝ }
+    requires { ⌜ (at ≤ length (now out)) × (64 ≤ length (now out)) ⌝ }
     ensures { λ r. ⌜ r ≤ length (now (out .entry)) ⌝ }
 {
     let to = put_all(out, at, b"characters ");
@@ -74,7 +74,7 @@ pub fn characters(s: &[u8], out: &mut [u8], at: usize) -> usize
 
 // `number VALUE`, `number large` or `number none`
 pub fn number(s: &[u8], out: &mut [u8], at: usize) -> usize
-    requires { ⌜ (at ≤ length (now out)) × (0 < length (now out)) ⌝ }
+    requires { ⌜ (at ≤ length (now out)) × (64 ≤ length (now out)) ⌝ }
     ensures { λ r. ⌜ r ≤ length (now (out .entry)) ⌝ }
 {
     let Number::Is(n) = read_number(s) else {
@@ -88,7 +88,7 @@ pub fn number(s: &[u8], out: &mut [u8], at: usize) -> usize
 }
 
 pub fn formatting(s: &[u8], out: &mut [u8], at: usize) -> usize
-    requires { ⌜ (at ≤ length (now out)) × (0 < length (now out)) ⌝ }
+    requires { ⌜ (at ≤ length (now out)) × (64 ≤ length (now out)) ⌝ }
     ensures { λ r. ⌜ r ≤ length (now (out .entry)) ⌝ }
 {
     if is_formatting(s) {
@@ -99,7 +99,7 @@ pub fn formatting(s: &[u8], out: &mut [u8], at: usize) -> usize
 
 // `name ELEMENT ATTRIBUTE`
 pub fn name(s: &[u8], out: &mut [u8], at: usize) -> usize
-    requires { ⌜ (at ≤ length (now out)) × (0 < length (now out)) ⌝ }
+    requires { ⌜ (at ≤ length (now out)) × (64 ≤ length (now out)) ⌝ }
     ensures { λ r. ⌜ r ≤ length (now (out .entry)) ⌝ }
 {
     let to = put_all(out, at, b"name");
@@ -109,7 +109,7 @@ pub fn name(s: &[u8], out: &mut [u8], at: usize) -> usize
 
 // Two places.
 fn both(out: &mut [u8], at: usize, a: usize, b: usize) -> usize
-    requires { ⌜ (at ≤ length (now out)) × (0 < length (now out)) ⌝ }
+    requires { ⌜ (at ≤ length (now out)) × (64 ≤ length (now out)) ⌝ }
     ensures { λ r. ⌜ r ≤ length (now (out .entry)) ⌝ }
 {
     let to = put_next(out, at, a as u64);
@@ -118,7 +118,7 @@ fn both(out: &mut [u8], at: usize, a: usize, b: usize) -> usize
 
 // The places of name and value of each attribute from this place on.
 fn attributes(s: &[u8], from: usize, out: &mut [u8], at: usize) -> usize
-    requires { ⌜ (from ≤ length (now s)) × (at ≤ length (now out)) × (0 < length (now out)) ⌝ }
+    requires { ⌜ (from ≤ length (now s)) × (at ≤ length (now out)) × (64 ≤ length (now out)) ⌝ }
     ensures { λ r. ⌜ r ≤ length (now (out .entry)) ⌝ }
 {
     let mut i = from;
@@ -137,7 +137,7 @@ fn attributes(s: &[u8], from: usize, out: &mut [u8], at: usize) -> usize
 
 // A start tag: its name's places, its end, its form, and its attributes' places.
 fn start(s: &[u8], cut: Cut, out: &mut [u8], at: usize) -> usize
-    requires { ⌜ (cut .behind ≤ length (now s)) × (at ≤ length (now out)) × (0 < length (now out)) ⌝ }
+    requires { ⌜ (cut .behind ≤ length (now s)) × (at ≤ length (now out)) × (64 ≤ length (now out)) ⌝ }
     ensures { λ r. ⌜ r ≤ length (now (out .entry)) ⌝ }
 {
     let mut to = put_all(out, at, b"start");
@@ -150,7 +150,7 @@ fn start(s: &[u8], cut: Cut, out: &mut [u8], at: usize) -> usize
 
 // The piece at a place of the content.
 pub fn piece(s: &[u8], place: usize, out: &mut [u8], at: usize) -> usize
-    requires { ⌜ (place < length (now s)) × (at ≤ length (now out)) × (0 < length (now out)) ⌝ }
+    requires { ⌜ (place < length (now s)) × (at ≤ length (now out)) × (64 ≤ length (now out)) ⌝ }
     ensures { λ r. ⌜ r ≤ length (now (out .entry)) ⌝ }
 {
     let cut = piece_at(s, place);

@@ -21,7 +21,7 @@ struct Step {
 }
 
 fn bad(out: &mut [u8], at: usize) -> Step
-    requires { ⌜ (at ≤ length (now out)) × (0 < length (now out)) ⌝ }
+    requires { ⌜ (at ≤ length (now out)) × (64 ≤ length (now out)) ⌝ }
     ensures { λ r. ⌜ r .at ≤ length (now (out .entry)) ⌝ }
 {
     let to = out::put_all(out, at, b"bad frame\n");
@@ -29,10 +29,10 @@ fn bad(out: &mut [u8], at: usize) -> Step
 }
 
 fn ended(out: &mut [u8], at: usize) -> Step
-    requires { ⌜ (at ≤ length (now out)) × (0 < length (now out)) ⌝ }
+    requires { ⌜ (at ≤ length (now out)) × (64 ≤ length (now out)) ⌝ }
     ensures { λ r. ⌜ r .at ≤ length (now (out .entry)) ⌝ }
 {
-    let to = out::put(out, at, 10);
+    let to = out::put_all(out, at, b"\n");
     Step { at: to, on: true }
 }
 
@@ -43,7 +43,7 @@ fn is_plain(first: u8) -> bool {
 
 // The answer to such a frame.
 fn plain(first: u8, s: &[u8], out: &mut [u8], at: usize) -> usize
-    requires { ⌜ (at ≤ length (now out)) × (0 < length (now out)) ⌝ }
+    requires { ⌜ (at ≤ length (now out)) × (64 ≤ length (now out)) ⌝ }
     ensures { λ r. ⌜ r ≤ length (now (out .entry)) ⌝ }
 {
     if first == b'Z' {
@@ -63,7 +63,7 @@ fn plain(first: u8, s: &[u8], out: &mut [u8], at: usize) -> usize
 
 // The answer to a frame `C`: the piece at a place, which is read now.
 fn piece(s: &[u8], out: &mut [u8], at: usize) -> Step
-    requires { ⌜ (at ≤ length (now out)) × (0 < length (now out)) ⌝ }
+    requires { ⌜ (at ≤ length (now out)) × (64 ≤ length (now out)) ⌝ }
     ensures { λ r. ⌜ r .at ≤ length (now (out .entry)) ⌝ }
 {
     let Field::Is(place) = input::read_number() else {
@@ -78,7 +78,7 @@ fn piece(s: &[u8], out: &mut [u8], at: usize) -> Step
 
 // The frame that begins with this byte.
 fn frame(first: u8, text: &mut [u8], out: &mut [u8], at: usize) -> Step
-    requires { ⌜ (at ≤ length (now out)) × (0 < length (now out)) ⌝ }
+    requires { ⌜ (at ≤ length (now out)) × (64 ≤ length (now out)) ⌝ }
     ensures { λ r. ⌜ r .at ≤ length (now (out .entry)) ⌝ }
 {
     let Field::Is(n) = input::read_length(70000) else {
@@ -100,7 +100,7 @@ fn frame(first: u8, text: &mut [u8], out: &mut [u8], at: usize) -> Step
 
 // The answer to a frame `L`: locating in a table.
 fn located(table: &mut [i64], text: &mut [u8], out: &mut [u8], at: usize) -> Step
-    requires { ⌜ (at ≤ length (now out)) × (0 < length (now out)) ⌝ }
+    requires { ⌜ (at ≤ length (now out)) × (64 ≤ length (now out)) ⌝ }
     ensures { λ r. ⌜ r .at ≤ length (now (out .entry)) ⌝ }
 {
     let Field::Is(count) = input::read_length(40000) else {
@@ -122,7 +122,7 @@ fn located(table: &mut [i64], text: &mut [u8], out: &mut [u8], at: usize) -> Ste
 
 // The answer to a frame `P`: planning a text into a table of so many numbers.
 fn planned(text: &mut [u8], table: &mut [i64], out: &mut [u8], at: usize) -> Step
-    requires { ⌜ (at ≤ length (now out)) × (0 < length (now out)) ⌝ }
+    requires { ⌜ (at ≤ length (now out)) × (64 ≤ length (now out)) ⌝ }
     ensures { λ r. ⌜ r .at ≤ length (now (out .entry)) ⌝ }
 {
     let Field::Is(numbers) = input::read_number() else {
@@ -148,7 +148,7 @@ fn planned(text: &mut [u8], table: &mut [i64], out: &mut [u8], at: usize) -> Ste
 
 // Frames up to the end of the input, or to the first bad one.
 fn run(text: &mut [u8], table: &mut [i64], out: &mut [u8]) -> usize
-    requires { ⌜ 0 < length (now out) ⌝ }
+    requires { ⌜ 64 ≤ length (now out) ⌝ }
     ensures { λ r. ⌜ r ≤ length (now (out .entry)) ⌝ }
 {
     let mut at = 0;
@@ -168,7 +168,7 @@ fn run(text: &mut [u8], table: &mut [i64], out: &mut [u8]) -> usize
 }
 
 fn next(first: u8, text: &mut [u8], table: &mut [i64], out: &mut [u8], at: usize) -> Step
-    requires { ⌜ (at ≤ length (now out)) × (0 < length (now out)) ⌝ }
+    requires { ⌜ (at ≤ length (now out)) × (64 ≤ length (now out)) ⌝ }
     ensures { λ r. ⌜ r .at ≤ length (now (out .entry)) ⌝ }
 {
     if first == b'C' || is_plain(first) {

@@ -1,64 +1,70 @@
 // Writing lines through one buffer, which is written out whenever it is full.
 
-ghost use Prim.Native.Nat.{_≤_, _<_};
+ghost use Prim.Native.Nat.{_+_, _≤_};
 ghost use lib.ListN.{length};
 
-// One byte more at `at`; the place for the next.
-pub fn put(out: &mut [u8], at: usize, b: u8) -> usize
-    requires { ⌜ (at ≤ length (now out)) × (0 < length (now out)) ⌝ }
-    ensures { λ r. ⌜ r ≤ length (now (out .entry)) ⌝ }
+// A place with room for 64 bytes: `at`, or the buffer's start once it is written out.
+fn room(out: &mut [u8], at: usize) -> usize
+    requires { ⌜ (at ≤ length (now out)) × (64 ≤ length (now out)) ⌝ }
+    ensures { λ r. ⌜ r + 64 ≤ length (now (out .entry)) ⌝ }
 {
-    if at < out.len() {
-        out[at] = b;
-        return at + 1;
+    if out.len() - at < 64 {
+        flush(out, at);
+        return 0;
     }
-    io::write_all(1, &out[0..at]);
-    out[0] = b;
-    1
+    at
 }
 
 // These bytes.
 pub fn put_all(out: &mut [u8], at: usize, bytes: &[u8]) -> usize
-    requires { ⌜ (at ≤ length (now out)) × (0 < length (now out)) ⌝ }
+    requires { ⌜ (at ≤ length (now out)) × (64 ≤ length (now out)) ⌝ }
     ensures { λ r. ⌜ r ≤ length (now (out .entry)) ⌝ }
 {
-    let mut to = at;
-    let mut i: usize = 0;
-    while i < bytes.len() {
-        to = put(out, to, bytes[i]);
-        i = i + 1;
+    let to = room(out, at);
+    if bytes.len() <= out.len() - to {
+        return lines::put_all(out, to, bytes);
     }
-    to
+    flush(out, to);
+    io::write_all(1, bytes);
+    0
 }
 
 // A number in decimal.
 pub fn put_number(out: &mut [u8], at: usize, n: u64) -> usize
-    requires { ⌜ (at ≤ length (now out)) × (0 < length (now out)) ⌝ }
+    requires { ⌜ (at ≤ length (now out)) × (64 ≤ length (now out)) ⌝ }
     ensures { λ r. ⌜ r ≤ length (now (out .entry)) ⌝ }
 {
-    let mut digits = [0u8; 20];
-    let k = io::decimal(n, &mut digits);
-    put_all(out, at, &digits[0..k])
+    let to = room(out, at);
+    lines::put_number(out, to, n)
 }
 
 // A blank and a number.
 pub fn put_next(out: &mut [u8], at: usize, n: u64) -> usize
-    requires { ⌜ (at ≤ length (now out)) × (0 < length (now out)) ⌝ }
+    requires { ⌜ (at ≤ length (now out)) × (64 ≤ length (now out)) ⌝ }
     ensures { λ r. ⌜ r ≤ length (now (out .entry)) ⌝ }
 {
-    let to = put(out, at, b' ');
-    put_number(out, to, n)
+    let to = room(out, at);
+    lines::put_next(out, to, n)
+}
+
+// A blank and the word for a kind.
+pub fn put_kind(out: &mut [u8], at: usize, kind: u64) -> usize
+    requires { ⌜ (at ≤ length (now out)) × (64 ≤ length (now out)) ⌝ }
+    ensures { λ r. ⌜ r ≤ length (now (out .entry)) ⌝ }
+{
+    let to = room(out, at);
+    lines::put_kind(out, to, kind)
 }
 
 // A blank and 16 hexadecimal digits.
 pub fn put_hex(out: &mut [u8], at: usize, n: u64) -> usize
-    requires { ⌜ (at ≤ length (now out)) × (0 < length (now out)) ⌝ }
+    requires { ⌜ (at ≤ length (now out)) × (64 ≤ length (now out)) ⌝ }
     ensures { λ r. ⌜ r ≤ length (now (out .entry)) ⌝ }
 {
-    let to = put(out, at, b' ');
+    let to = put_all(out, at, b" ");
     let mut digits = [0u8; 16];
     let k = io::hex(n, 16, &mut digits);
-    put_all(out, to, &digits[0..k])
+    put_all(out, to, &digits[..k])
 }
 
 // What is left in the buffer is written out.

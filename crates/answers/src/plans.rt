@@ -21,7 +21,7 @@ fn fill(table: &mut [i64]) {
 
 // `planned RECORDS VARIABLES` or `refused NUMBER PLACE`
 fn told(answer: Planned, out: &mut [u8], at: usize) -> usize
-    requires { ⌜ (at ≤ length (now out)) × (0 < length (now out)) ⌝ }
+    requires { ⌜ (at ≤ length (now out)) × (64 ≤ length (now out)) ⌝ }
     ensures { λ r. ⌜ r ≤ length (now (out .entry)) ⌝ }
 {
     match answer {
@@ -40,7 +40,7 @@ fn told(answer: Planned, out: &mut [u8], at: usize) -> usize
 
 // The text planned into the table, and the hash of the whole table afterwards.
 pub fn planned(text: &[u8], table: &mut [i64], out: &mut [u8], at: usize) -> usize
-    requires { ⌜ (at ≤ length (now out)) × (0 < length (now out)) ⌝ }
+    requires { ⌜ (at ≤ length (now out)) × (64 ≤ length (now out)) ⌝ }
     ensures { λ r. ⌜ r ≤ length (now (out .entry)) ⌝ }
 {
     fill(table);

@@ -3,30 +3,14 @@
 ghost use Prim.Native.Nat.{_≤_, _<_};
 ghost use lib.ListN.{length};
 use crate::out::put_all;
+use crate::out::put_kind;
 use crate::out::put_next;
 use locate::Located;
 use locate::locate;
 
-// The word for a kind.
-fn kind(kind: u64, out: &mut [u8], at: usize) -> usize
-    requires { ⌜ (at ≤ length (now out)) × (0 < length (now out)) ⌝ }
-    ensures { λ r. ⌜ r ≤ length (now (out .entry)) ⌝ }
-{
-    if kind == 3 {
-        return put_all(out, at, b" int");
-    }
-    if kind == 4 {
-        return put_all(out, at, b" string");
-    }
-    if kind == 5 {
-        return put_all(out, at, b" eventid");
-    }
-    put_all(out, at, b" float")
-}
-
 // `found RECORD SPACE ADDRESS SIZE KIND`, or `refused 20 0`, `refused 21 0`
 pub fn located(table: &[i64], n: u64, out: &mut [u8], at: usize) -> usize
-    requires { ⌜ (at ≤ length (now out)) × (0 < length (now out)) ⌝ }
+    requires { ⌜ (at ≤ length (now out)) × (64 ≤ length (now out)) ⌝ }
     ensures { λ r. ⌜ r ≤ length (now (out .entry)) ⌝ }
 {
     let told = locate(table, n);
@@ -36,14 +20,14 @@ pub fn located(table: &[i64], n: u64, out: &mut [u8], at: usize) -> usize
             space,
             address,
             size,
-            kind: word,
+            kind,
         } => {
             let mut to = put_all(out, at, b"found");
             to = put_next(out, to, record as u64);
             to = put_next(out, to, space);
             to = put_next(out, to, address);
             to = put_next(out, to, size);
-            kind(word, out, to)
+            put_kind(out, to, kind)
         }
         Located::NotAPlan => put_all(out, at, b"refused 20 0"),
         Located::NoVariable => put_all(out, at, b"refused 21 0"),

@@ -6,7 +6,7 @@ use Rattle.answers.proofs.run.Statement.{statement}
 use Rattle.answers.proofs.run.Tie as tie
 
 abbrev Inv-loop : tie.InvT-loop
-Inv-loop text₀ table₀ out₀ at₀ left₀ text table out at left = (at ≤ length out) × (0 < length out) × (length out ≡ length out₀) × (length text ≡ length text₀) × (length table ≡ length table₀) × Unit {0}
+Inv-loop text₀ table₀ out₀ at₀ left₀ text table out at left = (at ≤ length out) × (64 ≤ length out) × (length out ≡ length out₀) × (length text ≡ length text₀) × (length table ≡ length table₀) × Unit {0}
 
 abbrev μ-loop : tie.MeasureT-loop
 μ-loop text₀ table₀ out₀ at₀ left₀ text table out at left = left

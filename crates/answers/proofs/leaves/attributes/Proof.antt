@@ -6,7 +6,7 @@ use Rattle.answers.proofs.leaves.attributes.Statement.{statement}
 use Rattle.answers.proofs.leaves.attributes.Tie as tie
 
 abbrev Inv-loop : tie.InvT-loop
-Inv-loop s from out₀ at i₀ to₀ out i to = (i ≤ length s) × (to ≤ length out) × (0 < length out) × (length out ≡ length out₀) × Unit {0}
+Inv-loop s from out₀ at i₀ to₀ out i to = (i ≤ length s) × (to ≤ length out) × (64 ≤ length out) × (length out ≡ length out₀) × Unit {0}
 
 abbrev μ-loop : tie.MeasureT-loop
 μ-loop s from out₀ at i₀ to₀ out i to = length s - i
