@@ -117,19 +117,19 @@ module _ {s : List ℕ} {i : ℕ} {c : Cut} (v : Stands s i c) where
   grown = ap levels (v .is) ∙ ap (grow i (pieceOf (c .kind) s i c)) (split (from s (c .end)))
 
   module _ {r : Role} (e : r ≡ roleOf (c .kind)) where
-    at-run : r ≡ role.Run → ahead s i ≡ other i (text (part s i (c .end))) next-here ∷ next-around
+    pub at-run : r ≡ role.Run → ahead s i ≡ other i (text (part s i (c .end))) next-here ∷ next-around
     at-run q = grown ∙ made-run s i c next-here next-around (c .kind) (sym e ∙ q)
 
-    at-nothing : r ≡ role.Nothing → ahead s i ≡ ahead s (c .end)
+    pub at-nothing : r ≡ role.Nothing → ahead s i ≡ ahead s (c .end)
     at-nothing q = grown ∙ made-nothing s i c next-here next-around (c .kind) (sym e ∙ q) ∙ sym (split (from s (c .end)))
 
-    at-character : r ≡ role.Character → ahead s i ≡ other i (refer (c .code)) next-here ∷ next-around
+    pub at-character : r ≡ role.Character → ahead s i ≡ other i (refer (c .code)) next-here ∷ next-around
     at-character q = grown ∙ made-character s i c next-here next-around (c .kind) (sym e ∙ q)
 
-    at-dropped : r ≡ role.Dropped → ahead s i ≡ other i remark next-here ∷ next-around
+    pub at-dropped : r ≡ role.Dropped → ahead s i ≡ other i remark next-here ∷ next-around
     at-dropped q = grown ∙ made-dropped s i c next-here next-around (c .kind) (sym e ∙ q)
 
-    at-end : r ≡ role.End → here s i ≡ end
+    pub at-end : r ≡ role.End → here s i ≡ end
     unfolding tree
     at-end q = ap top grown ∙ made-end s i c next-here next-around (c .kind) (sym e ∙ q)
 
@@ -139,7 +139,7 @@ module _ {s : List ℕ} {i : ℕ} {c : Cut} (v : Stands s i c) where
         let m = made-element s i c next-here next-around (c .kind) (sym e ∙ q) (rw grown at l) in
         (ap (λ (fs : List Nodes). isEnd (top fs)) grown ∙ m .0, ap (λ (fs : List Nodes). ownText (top fs)) grown ∙ m .1)
 
-nothing-here : (s : List ℕ) (i : ℕ) → length s ≤ i → ahead s i ≡ end ∷ []
+pub nothing-here : (s : List ℕ) (i : ℕ) → length s ≤ i → ahead s i ≡ end ∷ []
 unfolding pieces levels
 nothing-here s i h = rw (drop-of-length-le s h)
 

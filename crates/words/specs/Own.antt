@@ -1,10 +1,11 @@
 -- What an element's own content says, by place.
 use mathlib.Core.Path.{_≡_}
 use mathlib.Core.List.{List}
-use mathlib.Core.Bool.{Bool, true, false}
+use mathlib.Core.Bool.{Bool, true, false, cond}
 use mathlib.Core.Option.{Option, none, some}
-use Prim.Native.Nat.{ℕ, _≤_}
-use lib.ListN.{length}
+use Prim.Native.Nat.{ℕ, _+_, _≤_}
+use lib.ListN.{length, drop}
+use Rattle.cdi.specs.Words.{begins}
 use Rattle.cdi.specs.Tree.{Nodes, end, element, other}
 use Rattle.cdi.specs.Rules.{ownText}
 use Rattle.pieces.specs.Places.{part}
@@ -44,6 +45,10 @@ pub record Told (s : List ℕ) (at : ℕ) (r : Own) : Type 0 where
   pub is : textOf s r ≡ ownText (here s at)
   pub within : Within s r
 
+-- the place in a text behind a word that stands at its byte k; else one past its end
+unfoldable pub behindOf : List ℕ → List ℕ → ℕ → ℕ
+behindOf w t k = cond (begins w (drop k t)) (k + length w) (length t + 1)
+
 unfoldable pub own-page : Unit {0}
-unfolding roleOf isEnd textOf Within
+unfolding roleOf isEnd textOf Within behindOf
 own-page = tt

@@ -1,18 +1,25 @@
-// What the text says of one element in its own content: one run of text, and the number that it is. A place stands for what is still to come at its
-// level.
+// What the text says of one element in its own content: one run of text and the number that it is, or text with its references decoded. A place stands
+// for what is still to come at its level.
 
 ghost use mathlib.Core.Path.{_≡_};
 ghost use Prim.Native.Nat.{_≤_};
-ghost use lib.ListN.{length};
+ghost use lib.ListN.{length, drop};
+ghost use Rattle.cdi.specs.Words.{same as sameBytes, begins};
 ghost use Rattle.cdi.specs.Rules.{ownNumber};
+ghost use Rattle.cdi.specs.Access.{decoded as decodedText};
+ghost use Rattle.pieces.specs.Places.{part};
+ghost use Rattle.pieces.specs.Characters.{utf8Of};
 ghost use Rattle.numbers.specs.Held.{numberOf};
 ghost use Rattle.pass.specs.Reading.{here};
 ghost use Rattle.children.specs.Siblings.{ahead};
-ghost use Rattle.words.specs.Own.{roleOf, isEnd, Told};
+ghost use Rattle.words.specs.Own.{roleOf, isEnd, Told, behindOf};
+use children::after;
 use numbers::Number;
 use numbers::read_number;
 use pieces::Kind;
+use pieces::characters::utf8;
 use pieces::piece_at;
+use scan::begins_at;
 
 // What a piece is to a text: a run of it, a reference in it, a child, what is dropped, its end, or no piece at all.
 pub enum Role {
@@ -125,4 +132,74 @@ pub fn own_number(s: &[u8], at: usize) -> Number
         Own::Text { from, to } => read_number(&s[from..to]),
         Own::Not => Number::Not,
     }
+}
+
+// Does the text go on, from its byte k, with this part of the content?
+fn goes_on(s: &[u8], from: usize, to: usize, text: &[u8], k: usize) -> bool
+    requires { ⌜ (from ≤ to) × (to ≤ length (now s)) × (k ≤ length (now text)) ⌝ }
+    ensures { λ r. ⌜ r ≡ begins (part (now (s .entry)) from to) (drop k (now (text .entry))) ⌝ }
+{
+    begins_at(text, k, &s[from..to])
+}
+
+// Where the text is behind this character, if it goes on with it from its byte k; else past its end.
+fn behind_character(code: u32, text: &[u8], k: usize) -> usize
+    requires { ⌜ k ≤ length (now text) ⌝ }
+    ensures { λ r. ⌜ r ≡ behindOf (utf8Of code) (now (text .entry)) k ⌝ }
+{
+    let encoding = utf8(code);
+    let bytes = encoding.bytes;
+    let count = encoding.length;
+    if text.len() - k < count {
+        return text.len() + 1;
+    }
+    if begins_at(text, k, &bytes[0..count]) {
+        return k + count;
+    }
+    text.len() + 1
+}
+
+// Is the text what is to come at the level of this place, with its references decoded, and its comments and instructions dropped?
+pub fn is_decoded(s: &[u8], at: usize, text: &[u8]) -> bool
+    requires { ⌜ (at ≤ length (now s)) × (2 ≤ length (ahead (now s) at)) ⌝ }
+    ensures { λ r. ⌜ r ≡ sameBytes (now (text .entry)) (decodedText (here (now (s .entry)) at)) ⌝ }
+{
+    let mut i = at;
+    let mut k: usize = 0;
+    while i < s.len() {
+        let c = piece_at(s, i);
+        let kind = c.kind;
+        let role = role_of(kind);
+        match role {
+            Role::Run => {
+                if goes_on(s, i, c.end, text, k) {
+                    k = k + (c.end - i);
+                    i = c.end;
+                } else {
+                    return false;
+                }
+            }
+            Role::Character => {
+                let next = behind_character(c.code, text, k);
+                if text.len() < next {
+                    return false;
+                }
+                k = next;
+                i = c.end;
+            }
+            Role::Element => {
+                i = after(s, i, c);
+            }
+            Role::Dropped => {
+                i = c.end;
+            }
+            Role::Nothing => {
+                i = c.end;
+            }
+            Role::End => {
+                return k == text.len();
+            }
+        }
+    }
+    false
 }
