@@ -54,20 +54,25 @@ impl Record {
 /// The first field of a segment's record.
 const SEGMENT: i64 = 1;
 
+/// The record of a data element with these last two fields; the number of the record after its subtree is not known yet.
+pub fn data_record(data: &Data, variables: i64, change: i64) -> Record {
+    Record {
+        kind: data.kind.field(),
+        place: data.place as i64,
+        shift: data.offset,
+        extra: data.size,
+        replication: data.replication,
+        after: 0,
+        variables,
+        change,
+    }
+}
+
 /// Puts the records of data elements behind those there are.
 fn add_data(records: &mut Vec<Record>, members: &[Data]) -> Option<()> {
     for data in members {
         let extent = extent_of(data)?;
-        records.push(Record {
-            kind: data.kind.field(),
-            place: data.place as i64,
-            shift: data.offset,
-            extra: data.size,
-            replication: data.replication,
-            after: 0,
-            variables: data_count(extent),
-            change: extent.change as i64,
-        });
+        records.push(data_record(data, data_count(extent), extent.change as i64));
         let own = records.len() - 1;
         add_data(records, &data.members)?;
         records[own].after = records.len() as i64;

@@ -3,7 +3,7 @@
 use super::super::tables::{self, group, hostile, number_all, table_of, variable};
 use crate::answer::Case;
 use crate::description::{Data, Kind, Segment};
-use crate::table::{numbers, Record, FIELDS};
+use crate::table::{data_record, numbers, Record, FIELDS};
 
 /// Segments with numbers and places, as a table.
 fn numbered(mut segments: Vec<Segment>, first_place: usize) -> Vec<i64> {
@@ -155,16 +155,7 @@ fn table_walks() -> Vec<Case> {
 /// Adds the records of a data element, its last two fields as arithmetic that wraps at 64 bits would give them.
 fn wrapped_data(data: &Data, records: &mut Vec<Record>) -> (i64, i64) {
     let own = records.len();
-    records.push(Record {
-        kind: data.kind.field(),
-        place: data.place as i64,
-        shift: data.offset,
-        extra: data.size,
-        replication: data.replication,
-        after: 0,
-        variables: 1,
-        change: data.offset.wrapping_add(data.size),
-    });
+    records.push(data_record(data, 1, data.offset.wrapping_add(data.size)));
     if data.kind == Kind::Group {
         let (variables, change) = wrapped_list(&data.members, records);
         records[own].variables = variables.wrapping_mul(data.replication);
