@@ -372,6 +372,9 @@ module _ {s : List ℕ} {i : ℕ} {r : Child} (x : NextChild s i r) {p : ℕ} {c
   pub child-deep : 2 ≤ length (ahead s p)
   child-deep = is-child r x e .deep
 
+  pub child-first : firstChild (here s i) ≡ firstChild (here s p)
+  child-first = is-child r x e .first
+
   pub ask-less : {z : ℕ} → Passed s p c z → length s - z < length s - i
   ask-less w = omega (arith, is-child r x e .low, w .low, w .high)
 
@@ -389,7 +392,7 @@ module _ {s : List ℕ} {i : ℕ} {r : Child} (x : NextChild s i r) {p : ℕ} {c
         let k = is-child r x e in
         record { is = asked ∙ named-not (k .stands) (k .kind) (k .deep) n (sym f ∙ g) y; deep = y .deep; high = y .high }
 
-no-child : {s : List ℕ} {i : ℕ} (r : Child) → NextChild s i r → r ≡ Nothing → firstChild (here s i) ≡ end
+pub no-child : {s : List ℕ} {i : ℕ} (r : Child) → NextChild s i r → r ≡ Nothing → firstChild (here s i) ≡ end
 no-child (At q d) (there v k f l h) e = impossible (cc)
 no-child Nothing (nowhere f) e = f
 

@@ -132,7 +132,7 @@ pub fn next_child(s: &[u8], at: usize) -> Child
 }
 
 // Has the tag this name?
-fn is_named(s: &[u8], at: usize, tag: Cut, name: &[u8]) -> bool
+pub fn is_named(s: &[u8], at: usize, tag: Cut, name: &[u8]) -> bool
     requires { ⌜ Stands (now s) at tag ⌝ }
     ensures { λ r. ⌜ r ≡ sameBytes (now (name .entry)) (nameIn (now (s .entry)) tag) ⌝ }
 {

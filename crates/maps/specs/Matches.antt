@@ -1,0 +1,31 @@
+-- What a property is compared with, and how.
+use mathlib.Core.List.{List}
+use mathlib.Core.Bool.{Bool, false, cond, _&&_, _||_, Bool·beq}
+use Prim.Native.Nat.{ℕ}
+use lib.Dec.{eqb}
+use Rattle.cdi.specs.Words.{ascii, given, same}
+use Rattle.cdi.specs.Tree.{Nodes, end}
+use Rattle.cdi.specs.Values.{signed}
+use Rattle.cdi.specs.Access.{Value, integer, string, childOf}
+use Rattle.numbers.specs.declared.Signed.{Signed}
+use Rattle.maps.specs.declared.Wanted.{Wanted}
+use Rattle.maps.specs.declared.Wanted.the-variants.{Number, Text}
+
+unfoldable pub isEqual : Signed → Bool → ℕ → Bool
+isEqual n b m = cond (n .large) false (eqb (n .magnitude) m && (eqb m 0 || Bool·beq (n .negative) b))
+
+unfoldable pub wantedOf : Wanted → List ℕ → Value
+wantedOf (Number b m) t = integer (signed b m)
+wantedOf Text t = string t
+
+-- no content
+abbrev pub noNodes : Nodes
+noNodes = end
+
+-- an element of that name and content is a relation whose property passes
+unfoldable pub matchOf : (Nodes → Bool) → List ℕ → Nodes → Bool
+matchOf f n kids = cond (same n (ascii "relation")) (given (childOf (ascii "property") kids) false f) false
+
+unfoldable pub matches-page : Unit {0}
+unfolding isEqual wantedOf matchOf
+matches-page = tt
