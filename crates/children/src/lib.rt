@@ -142,7 +142,7 @@ pub fn is_named(s: &[u8], at: usize, tag: Cut, name: &[u8]) -> bool
 }
 
 // The content of the element with this start tag.
-fn part_of(tag: Cut) -> Part
+pub fn part_of(tag: Cut) -> Part
     ensures { λ r. ⌜ r ≡ partOf tag ⌝ }
 {
     if tag.short {

@@ -1,0 +1,79 @@
+-- The numbers of an int's bounds: by its children, and as the definitions take them.
+use mathlib.Core.Path.{_≡_, refl, sym, ap, _∙_}
+use mathlib.Core.List.{List}
+use mathlib.Core.Bool.{Bool, true, false, cond}
+use mathlib.Core.Option.{Option, none, some}
+use Prim.Native.Nat.{ℕ}
+use borrow.Author.Needs.{needs}
+use lib.IntN.{ℤ, pos}
+use lib.Signed.{ltZ}
+use Rattle.cdi.specs.Words.{given, _>>=_, same}
+use Rattle.cdi.specs.Tree.{Nodes, end, element, other}
+use Rattle.cdi.specs.Rules.{ownText, ownNumber, Bound, boundOf, isSigned}
+use Rattle.cdi.specs.Access.{childOf}
+use Rattle.numbers.specs.Held.{numberOf}
+use Rattle.numbers.specs.declared.Number.{Number}
+use Rattle.numbers.specs.declared.Number.the-variants.{Not}
+use Rattle.pass.specs.Reading.{here}
+use Rattle.children.specs.Siblings.{nodesIn, Named}
+use Rattle.children.specs.declared.Part.{Part}
+use Rattle.children.specs.declared.Part.the-variants.{Missing, Empty, From}
+use Rattle.maps.proofs.Matching.{inside-high, inside-deep, part-inside}
+use Rattle.settings.specs.Limits.{ownIn, childNumber}
+
+-- ── the code's ways ──
+
+module _ (s : List ℕ) {p : Part} where
+  pub missing-number : p ≡ Missing → Not ≡ numberOf (ownIn (nodesIn s p))
+  unfolding nodesIn numberOf ownIn
+  missing-number e = sym (rw e)
+
+  pub empty-number : p ≡ Empty → Not ≡ numberOf (ownIn (nodesIn s p))
+  unfolding nodesIn numberOf ownIn ownNumber ownText
+  empty-number e = sym (rw e)
+
+  pub some-number : {q : ℕ} {r : Number} → p ≡ From q → r ≡ numberOf (ownNumber (here s q)) → r ≡ numberOf (ownIn (nodesIn s p))
+  unfolding nodesIn ownIn
+  some-number e z = z ∙ sym (rw e)
+
+  module _ (n : List ℕ) where
+    pub no-child : p ≡ Missing → Not ≡ numberOf (childNumber n (nodesIn s p))
+    unfolding nodesIn numberOf ownIn childNumber
+    no-child e = sym (rw e)
+
+    pub empty-child : p ≡ Empty → Not ≡ numberOf (childNumber n (nodesIn s p))
+    unfolding nodesIn numberOf ownIn childNumber childOf
+    empty-child e = sym (rw e)
+
+    pub some-child : {q : ℕ} {i : Part} {r : Number} → p ≡ From q → Named s q n i → r ≡ numberOf (ownIn (nodesIn s i)) → r ≡ numberOf (childNumber n (nodesIn s p))
+    unfolding nodesIn childNumber
+    some-child {q} {i} e w z = z ∙ ap (λ o. numberOf (ownIn o)) (w .is) ∙ sym (rw e)
+
+pub ruleset limiting = (missing-number, empty-number, some-number, no-child, empty-child, some-child, inside-high, inside-deep, part-inside, needs)
+
+-- ── as the definitions take them ──
+
+-- the bound of that name has the number of the child of that name
+pub bound-value : (n : List ℕ) (u : Nodes) (z : ℤ) → given (boundOf n u) z (λ (b : Bound). b .value) ≡ given (childNumber n (some u)) z (λ y. y)
+unfolding boundOf ownIn childNumber childOf
+bound-value n end z = refl
+bound-value n (other p c following) z = bound-value n following z
+bound-value n (element p m s kids following) z = by (same n m) (ownNumber kids) refl (bound-value n following z)
+  where
+    by : (b : Bool) (o : Option ℤ) → ownNumber kids ≡ o → given (boundOf n following) z (λ (b : Bound). b .value) ≡ given (childOf n following >>= ownNumber) z (λ y. y)
+        → given (cond b (ownNumber kids >>= λ y. some (record { place = p; value = y })) (boundOf n following)) z (λ (b : Bound). b .value) ≡ given (cond b (some kids) (childOf n following) >>= ownNumber) z (λ y. y)
+    by true none e others = rw e
+    by true (some y) e others = rw e
+    by false o e others = others
+
+pub bound-sign : (n : List ℕ) (u : Nodes) → isSigned (boundOf n u) ≡ given (childNumber n (some u)) false (λ y. ltZ y (pos 0))
+unfolding boundOf ownIn childNumber childOf isSigned
+bound-sign n end = refl
+bound-sign n (other p c following) = bound-sign n following
+bound-sign n (element p m s kids following) = by (same n m) (ownNumber kids) refl (bound-sign n following)
+  where
+    by : (b : Bool) (o : Option ℤ) → ownNumber kids ≡ o → isSigned (boundOf n following) ≡ given (childOf n following >>= ownNumber) false (λ y. ltZ y (pos 0))
+        → isSigned (cond b (ownNumber kids >>= λ y. some (record { place = p; value = y })) (boundOf n following)) ≡ given (cond b (some kids) (childOf n following) >>= ownNumber) false (λ y. ltZ y (pos 0))
+    by true none e others = rw e
+    by true (some y) e others = rw e
+    by false o e others = others

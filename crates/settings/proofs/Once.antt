@@ -1,0 +1,17 @@
+-- One answer: any two results that a contract allows are the same. (A content is known by what it holds, not by its place: see the decision on places.)
+use mathlib.Core.Path.{_≡_, sym, _∙_}
+use mathlib.Core.List.{List}
+use mathlib.Core.Option.{Option}
+use Prim.Native.Nat.{ℕ}
+use Rattle.cdi.specs.Tree.{Nodes}
+use Rattle.numbers.specs.Held.{numberOf}
+use Rattle.numbers.specs.declared.Number.{Number}
+use Rattle.children.specs.Siblings.{nodesIn}
+use Rattle.children.specs.declared.Part.{Part}
+use Rattle.settings.specs.Limits.{childNumber}
+
+pub child-number-once : (n : List ℕ) (o : Option Nodes) (r q : Number) → r ≡ numberOf (childNumber n o) → q ≡ numberOf (childNumber n o) → r ≡ q
+child-number-once n o r q e f = e ∙ sym f
+
+pub content-at-once : (s : List ℕ) (o : Option Nodes) (r q : Part) → nodesIn s r ≡ o → nodesIn s q ≡ o → nodesIn s r ≡ nodesIn s q
+content-at-once s o r q e f = e ∙ sym f
