@@ -105,6 +105,10 @@ module _ {w : Wanted} (t : List ℕ) (u : Nodes) where
   unfolding wantedOf equals
   by-text e q = q ∙ sym (rw e)
 
+  pub no-event : {v : ℕ} → w ≡ wanted.Event v → false ≡ equals (wantedOf w t) u
+  unfolding wantedOf equals
+  no-event e = sym (rw e)
+
   module _ {b : Bool} {m : ℕ} (e : w ≡ wanted.Number b m) {n : Number} (q : n ≡ numberOf (ownNumber u)) where
     asked : equals (wantedOf w t) u ≡ given (ownNumber u) false (sameNumber (signed b m))
     unfolding wantedOf equals
@@ -126,7 +130,7 @@ module _ {w : Wanted} (t : List ℕ) (u : Nodes) where
         by none y x = impossible (cc)
         by (some i) y x = let g : signedOf i ≡ a = cc in z ∙ ap (λ v. isEqual v b m) (sym g) ∙ number-same i b m h ∙ sym (asked ∙ rw y)
 
-pub ruleset contents = (by-text, not-number, by-number, needs)
+pub ruleset contents = (by-text, no-event, not-number, by-number, needs)
 
 -- ── an empty content ──
 
@@ -144,7 +148,7 @@ module _ {w : Wanted} (t : List ℕ) where
   unfolding wantedOf equals ownNumber ownText
   empty-number e = sym (rw e)
 
-pub ruleset empties = (empty-text, empty-number, needs)
+pub ruleset empties = (empty-text, no-event, empty-number, needs)
 
 -- ── a property ──
 

@@ -6,16 +6,17 @@ use lib.Dec.{eqb}
 use Rattle.cdi.specs.Words.{ascii, given, same}
 use Rattle.cdi.specs.Tree.{Nodes, end}
 use Rattle.cdi.specs.Values.{signed}
-use Rattle.cdi.specs.Access.{Value, integer, string, childOf}
+use Rattle.cdi.specs.Access.{Value, integer, event, string, childOf}
 use Rattle.numbers.specs.declared.Signed.{Signed}
 use Rattle.maps.specs.declared.Wanted.{Wanted}
-use Rattle.maps.specs.declared.Wanted.the-variants.{Number, Text}
+use Rattle.maps.specs.declared.Wanted.the-variants.{Number, Event, Text}
 
 unfoldable pub isEqual : Signed → Bool → ℕ → Bool
 isEqual n b m = cond (n .large) false (eqb (n .magnitude) m && (eqb m 0 || Bool·beq (n .negative) b))
 
 unfoldable pub wantedOf : Wanted → List ℕ → Value
 wantedOf (Number b m) t = integer (signed b m)
+wantedOf (Event v) t = event v
 wantedOf Text t = string t
 
 -- no content

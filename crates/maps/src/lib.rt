@@ -25,9 +25,10 @@ use pieces::Cut;
 use words::is_decoded;
 use words::own_number;
 
-// What a property is to equal: an integer, or the text that is handed in beside it.
+// What a property is to equal: an integer, an event ID, which equals none, or the text that is handed in beside it.
 pub enum Wanted {
     Number { negative: bool, magnitude: u64 },
+    Event(u64),
     Text,
 }
 
@@ -54,6 +55,7 @@ fn is_content(s: &[u8], at: usize, wanted: Wanted, text: &[u8]) -> bool
 {
     match wanted {
         Wanted::Text => is_decoded(s, at, text),
+        Wanted::Event(_) => false,
         Wanted::Number {
             negative,
             magnitude,
@@ -72,6 +74,7 @@ fn is_empty(wanted: Wanted, text: &[u8]) -> bool
 {
     match wanted {
         Wanted::Text => text.len() == 0,
+        Wanted::Event(_) => false,
         Wanted::Number {
             negative: _,
             magnitude: _,

@@ -8,5 +8,7 @@ is-empty-spec =
     tie.close (tie.spec
     (λ c. search needs)
     (λ c. search needs)
+    (λ c. search needs)
+    (λ c. search empties)
     (λ c. search empties)
     (λ c. search empties))
