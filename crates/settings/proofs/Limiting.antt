@@ -15,10 +15,11 @@ use Rattle.numbers.specs.Held.{numberOf}
 use Rattle.numbers.specs.declared.Number.{Number}
 use Rattle.numbers.specs.declared.Number.the-variants.{Not}
 use Rattle.pass.specs.Reading.{here}
-use Rattle.children.specs.Siblings.{nodesIn, Named}
+use Rattle.children.specs.Siblings.{nodesIn, Inside, Named}
 use Rattle.children.specs.declared.Part.{Part}
 use Rattle.children.specs.declared.Part.the-variants.{Missing, Empty, From}
 use Rattle.maps.proofs.Matching.{inside-high, inside-deep, part-inside}
+use Rattle.settings.specs.Contents.{contentIn}
 use Rattle.settings.specs.Limits.{ownIn, childNumber}
 
 -- ── the code's ways ──
@@ -37,19 +38,36 @@ module _ (s : List ℕ) {p : Part} where
   some-number e z = z ∙ sym (rw e)
 
   module _ (n : List ℕ) where
-    pub no-child : p ≡ Missing → Not ≡ numberOf (childNumber n (nodesIn s p))
-    unfolding nodesIn numberOf ownIn childNumber
+    pub no-child : p ≡ Missing → nodesIn s Missing ≡ childOf n (contentIn s p)
+    unfolding nodesIn contentIn childOf
     no-child e = sym (rw e)
 
-    pub empty-child : p ≡ Empty → Not ≡ numberOf (childNumber n (nodesIn s p))
-    unfolding nodesIn numberOf ownIn childNumber childOf
+    pub empty-child : p ≡ Empty → nodesIn s Missing ≡ childOf n (contentIn s p)
+    unfolding nodesIn contentIn childOf
     empty-child e = sym (rw e)
 
-    pub some-child : {q : ℕ} {i : Part} {r : Number} → p ≡ From q → Named s q n i → r ≡ numberOf (ownIn (nodesIn s i)) → r ≡ numberOf (childNumber n (nodesIn s p))
-    unfolding nodesIn childNumber
-    some-child {q} {i} e w z = z ∙ ap (λ o. numberOf (ownIn o)) (w .is) ∙ sym (rw e)
+    pub some-child : {q : ℕ} {i : Part} → p ≡ From q → Named s q n i → nodesIn s i ≡ childOf n (contentIn s p)
+    unfolding nodesIn contentIn
+    some-child e w = w .is ∙ sym (rw e)
 
-pub ruleset limiting = (missing-number, empty-number, some-number, no-child, empty-child, some-child, inside-high, inside-deep, part-inside, needs)
+pub missing-inside : (s : List ℕ) → Inside s Missing
+unfolding Inside
+missing-inside s = tt
+
+pub ruleset child-ways = (no-child, empty-child, some-child, missing-inside, inside-high, inside-deep, part-inside, needs)
+
+-- the child in a content that may be missing
+child-of-content : (s : List ℕ) (n : List ℕ) (p : Part) → childOf n (contentIn s p) ≡ nodesIn s p >>= childOf n
+unfolding nodesIn contentIn childOf
+child-of-content s n Missing = refl
+child-of-content s n Empty = refl
+child-of-content s n (From q) = refl
+
+pub number-of-child : (s n : List ℕ) (p i : Part) {r : Number} → nodesIn s i ≡ childOf n (contentIn s p) → r ≡ numberOf (ownIn (nodesIn s i)) → r ≡ numberOf (childNumber n (nodesIn s p))
+unfolding childNumber
+number-of-child s n p i w z = z ∙ ap (λ o. numberOf (ownIn o)) (w ∙ child-of-content s n p)
+
+pub ruleset limiting = (missing-number, empty-number, some-number, number-of-child, inside-high, inside-deep, needs)
 
 -- ── as the definitions take them ──
 

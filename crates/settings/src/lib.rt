@@ -1,15 +1,19 @@
-// What the text says of one setting, asked by the place in its record: its content, and the number in a child of it.
+// What the text says of one setting, asked by the place in its record: its content, a child of it, and the number in that child.
 
 ghost use mathlib.Core.Path.{_≡_};
 ghost use mathlib.Core.Bool.{true};
 ghost use Prim.Native.Nat.{_≤_, _<_};
 ghost use lib.ListN.{length};
 ghost use Rattle.cdi.specs.Words.{isSome};
-ghost use Rattle.cdi.specs.Access.{contentAt};
+ghost use Rattle.cdi.specs.Access.{contentAt, childOf};
 ghost use Rattle.numbers.specs.Held.{numberOf};
 ghost use Rattle.pass.specs.Reading.{here};
 ghost use Rattle.children.specs.Siblings.{nodesIn, Inside};
+ghost use Rattle.settings.specs.Contents.{contentIn};
 ghost use Rattle.settings.specs.Limits.{ownIn, childNumber};
+
+pub mod admission; // what a map admits
+
 use children::Part;
 use children::content_of;
 use children::part_of;
@@ -39,17 +43,24 @@ fn number_in(s: &[u8], part: Part) -> Number
     }
 }
 
+// The content of the child of this name.
+pub fn child_in(s: &[u8], part: Part, name: &[u8]) -> Part
+    requires { ⌜ Inside (now s) part ⌝ }
+    ensures is { λ r. ⌜ nodesIn (now (s .entry)) r ≡ childOf (now (name .entry)) (contentIn (now (s .entry)) part) ⌝ }
+    ensures inside { λ r. ⌜ Inside (now (s .entry)) r ⌝ }
+{
+    match part {
+        Part::Missing => Part::Missing,
+        Part::Empty => Part::Missing,
+        Part::From(at) => content_of(s, at, name),
+    }
+}
+
 // The number that the child of this name is: a bound of an int.
 pub fn child_number(s: &[u8], part: Part, name: &[u8]) -> Number
     requires { ⌜ Inside (now s) part ⌝ }
     ensures { λ r. ⌜ r ≡ numberOf (childNumber (now (name .entry)) (nodesIn (now (s .entry)) part)) ⌝ }
 {
-    match part {
-        Part::Missing => Number::Not,
-        Part::Empty => Number::Not,
-        Part::From(at) => {
-            let inner = content_of(s, at, name);
-            number_in(s, inner)
-        }
-    }
+    let inner = child_in(s, part, name);
+    number_in(s, inner)
 }
