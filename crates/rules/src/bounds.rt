@@ -46,7 +46,7 @@ fn half(size: u8) -> u64
 }
 
 // The numbers that the size can store, signed or not.
-fn range_of(signed: bool, size: u8) -> Range
+pub fn range_of(signed: bool, size: u8) -> Range
     requires { ⌜ (1 ≤ size) × (size ≤ 8) ⌝ }
     ensures low { λ r. ⌜ lowOf r ≡ smallest signed size ⌝ }
     ensures high { λ r. ⌜ highOf r ≡ largest signed size ⌝ }

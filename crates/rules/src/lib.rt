@@ -9,7 +9,7 @@ ghost use Rattle.pieces.specs.Cuts.{pieceOf, Stands};
 ghost use Rattle.rules.specs.Judging.{fresh as freshJudge, enterOf, otherOf, leaveOf};
 
 mod faults; // the least fault
-mod bounds; // an int's bounds
+pub mod bounds; // an int's bounds
 mod tables; // the table of elements by number
 mod sizes; // sizes, which are exact texts
 mod attributes; // the attributes of a tag

@@ -4,8 +4,11 @@ use mathlib.Core.List.{List}
 use mathlib.Core.Bool.{Bool, true}
 use mathlib.Core.Option.{Option}
 use Prim.Native.Nat.{ℕ}
+use lib.IntN.{ℤ}
 use Rattle.cdi.specs.Words.{ascii, given, any}
 use Rattle.cdi.specs.Tree.{Nodes}
+use Rattle.cdi.specs.Numbers.{within}
+use Rattle.cdi.specs.Rules.{boundOf, isSigned, boundsOf}
 use Rattle.cdi.specs.Access.{Value, childOf, properties, hasMap, equals}
 use Rattle.numbers.specs.Held.{numberOf}
 use Rattle.numbers.specs.declared.Number.{Number}
@@ -28,3 +31,10 @@ has-map-once kids r q e f = e ∙ sym f
 pub is-admitted-once : (kids : Nodes) (v : Value) (r q : Bool) → r ≡ given (childOf (ascii "map") kids) true (λ m. any (equals v) (properties m))
     → q ≡ given (childOf (ascii "map") kids) true (λ m. any (equals v) (properties m)) → r ≡ q
 is-admitted-once kids v r q e f = e ∙ sym f
+
+pub is-signed-once : (kids : Nodes) (r q : Bool) → r ≡ isSigned (boundOf (ascii "min") kids) → q ≡ isSigned (boundOf (ascii "min") kids) → r ≡ q
+is-signed-once kids r q e f = e ∙ sym f
+
+pub is-in-bounds-once : (n : ℕ) (kids : Nodes) (z : ℤ) (r q : Bool) → r ≡ within (boundsOf n kids .min) (boundsOf n kids .max) z
+    → q ≡ within (boundsOf n kids .min) (boundsOf n kids .max) z → r ≡ q
+is-in-bounds-once n kids z r q e f = e ∙ sym f

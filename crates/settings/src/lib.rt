@@ -12,6 +12,7 @@ ghost use Rattle.children.specs.Siblings.{nodesIn, Inside};
 ghost use Rattle.settings.specs.Contents.{contentIn};
 ghost use Rattle.settings.specs.Limits.{ownIn, childNumber};
 
+pub mod bounds; // an int's sign and bounds
 pub mod admission; // what a map admits
 
 use children::Part;
