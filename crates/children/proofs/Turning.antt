@@ -117,7 +117,7 @@ module _ {s : List ℕ} {i : ℕ} {c : Cut} (v : Stands s i c) where
   closes q = ap tail (grown-by v refl) ∙ close-tail s i c (here s (c .end)) (tail (ahead s (c .end))) (c .kind) q ∙ sym (split (from s (c .end)))
 
 -- behind the content there is one level, and nothing at it
-nothing-ahead : (s : List ℕ) (i : ℕ) → length s ≤ i → ahead s i ≡ end ∷ []
+pub nothing-ahead : (s : List ℕ) (i : ℕ) → length s ≤ i → ahead s i ≡ end ∷ []
 unfolding pieces levels
 nothing-ahead s i h = rw (drop-of-length-le s h)
 

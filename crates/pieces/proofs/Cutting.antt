@@ -91,7 +91,7 @@ pub ruleset any-piece = (is-markup, is-reference, is-text, text-front, needs)
 -- ── counted from the content's beginning ──
 
 -- the bytes that are still to pass
-pieces-skip : (at k : ℕ) (s : List ℕ) → pieces at k s ≡ pieces (at + k) 0 (drop k s)
+pub pieces-skip : (at k : ℕ) (s : List ℕ) → pieces at k s ≡ pieces (at + k) 0 (drop k s)
 unfolding pieces
 pieces-skip at zero s = rw add-zero
 pieces-skip at (suc k) [] = refl

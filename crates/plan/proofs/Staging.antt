@@ -1,12 +1,12 @@
 -- Stages 1 to 7: the end of the content, its characters, its first line, the reading of its elements.
 use mathlib.Core.Path.{_≡_, refl, sym, ap, _∙_}
-use mathlib.Core.List.{List, [], _∷_}
+use mathlib.Core.List.{List, []}
 use mathlib.Core.Bool.{Bool, true, false, cond}
 use mathlib.Core.Option.{Option, none, some}
 use Prim.Native.Nat.{ℕ, _-_, _≤_, _<_, min}
 use native.Mathlib.Omega.{arith}
 use borrow.Author.Needs.{needs}
-use lib.Dec.{eqb, leb}
+use lib.Dec.{leb}
 use lib.IntN.{ℤ}
 use lib.ListN.{length, take, drop, length-take}
 use Rattle.cdi.specs.Words.{given, begins}
@@ -16,8 +16,8 @@ use Rattle.cdi.specs.Markup.{reading, markupFaults}
 use Rattle.cdi.specs.Tree.{tree}
 use Rattle.cdi.specs.Planning.{ending, characters, opening, cut, markup, described}
 use Rattle.cdi.proofs.Quiet.{impossible}
-use Rattle.cdi.proofs.Tests.{both-right}
 use Rattle.cdi.proofs.Stages.{first-zero}
+use Rattle.scan.proofs.Words.{begun-length}
 use Rattle.text.specs.Answers as T
 use Rattle.text.specs.declared.End.{End}
 use Rattle.text.specs.declared.End.the-variants as end
@@ -124,12 +124,6 @@ module _ (c : List ℕ) (t : List ℤ) {b : Place} (a : T.placeOf b ≡ badChara
     pub opens-not : o ≡ false → saidOf (Refused 3 0) t ≡ ofContent c
     unfolding saidOf ofContent characters opening T.placeOf
     opens-not f = rw (sym a ∙ ap T.placeOf e, sym k ∙ f)
-
-begun-length : (w s : List ℕ) → begins w s ≡ true → length w ≤ length s
-unfolding begins
-begun-length [] s e = omega arith
-begun-length (x ∷ w) [] e = impossible (cc)
-begun-length (x ∷ w) (y ∷ s) e = let l = begun-length w s (both-right (eqb x y) _ e) in omega arith
 
 pub opening-length : {o : Bool} (c : List ℕ) → o ≡ begins firstLine c → o ≡ true → 22 ≤ length c
 unfolding firstLine

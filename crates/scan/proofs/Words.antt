@@ -10,6 +10,8 @@ use borrow.Author.Tests.{eq-eqb, ne-eqb}
 use lib.Dec.{eqb}
 use lib.ListN.{length, drop, getD, drop-of-length-le}
 use Rattle.cdi.specs.Words.{any, same, begins}
+use Rattle.cdi.proofs.Quiet.{impossible}
+use Rattle.cdi.proofs.Tests.{both-right}
 use Rattle.scan.proofs.Along.{drop-next}
 
 -- the word agrees up to i
@@ -40,6 +42,13 @@ pub start : (s : List ℕ) (at : ℕ) (word : List ℕ) → Agrees s at word 0
 start s at word = record { left = rw add-zero }
 
 pub ruleset word-loop = (start, full, short, differs, agrees, needs)
+
+-- a word that a text begins with is no longer than the text
+pub begun-length : (w s : List ℕ) → begins w s ≡ true → length w ≤ length s
+unfolding begins
+begun-length [] s e = omega arith
+begun-length (x ∷ w) [] e = impossible (cc)
+begun-length (x ∷ w) (y ∷ s) e = let l = begun-length w s (both-right (eqb x y) _ e) in omega arith
 
 -- two of one length are the same where one begins with the other
 same-begins : (a b : List ℕ) → length a ≡ length b → begins a b ≡ same a b

@@ -5,12 +5,11 @@ use mathlib.Core.Bool.{Bool, true, false}
 use mathlib.Core.Option.{Option, none, some}
 use mathlib.Core.Logic.{_⊎_, inl, inr, ⊎-elim}
 use Prim.Native.Nat.{ℕ, zero, suc, _+_, _-_, _≤_, _<_}
-use native.Mathlib.Nat.{add-zero}
 use native.Mathlib.Omega.{arith}
 use borrow.Author.Needs.{needs}
 use borrow.Author.Tests.{eqb-true}
 use lib.Dec.{eqb}
-use lib.ListN.{length, drop, getD, drop-of-length-le}
+use lib.ListN.{length, drop, getD}
 use lib.Seq.{drop-cons, drop-drop}
 use Rattle.cdi.specs.Words.{isSome}
 use Rattle.cdi.specs.Pieces.{Attribute, Piece, start, finish, remark, refer, text, malformed, unsupported, pieceAt, pieces}
@@ -18,6 +17,7 @@ use Rattle.cdi.specs.Tree.{Nodes, end, element, grow, levels, top, tree}
 use Rattle.cdi.specs.Access.{contentAt}
 use Rattle.cdi.proofs.Quiet.{impossible}
 use Rattle.scan.proofs.Tests.{lt-or-le}
+use Rattle.pieces.proofs.Cutting.{pieces-skip}
 use Rattle.pieces.specs.Cuts.{pieceOf, Stands}
 use Rattle.pieces.specs.declared.Kind.{Kind}
 use Rattle.pieces.specs.declared.Kind.the-variants.{Start, Finish, Remark, Refer, Text, Malformed, Unsupported}
@@ -27,6 +27,7 @@ use Rattle.pass.specs.Reading.{here}
 use Rattle.pass.proofs.Levels.{split}
 use Rattle.children.specs.Siblings.{ahead, contentOf, partOf, nodesIn, Inside}
 use Rattle.children.specs.declared.Part.{Part}
+use Rattle.children.proofs.Turning.{nothing-ahead}
 
 -- ── levels that hold an element's content ──
 
@@ -80,12 +81,6 @@ module _ (q : ℕ) (kids : Nodes) where
 
 -- ── from piece to piece ──
 
-passes : (at k : ℕ) (s : List ℕ) → pieces at k s ≡ pieces (at + k) 0 (drop k s)
-unfolding pieces
-passes at zero s = rw add-zero
-passes at (suc k) [] = refl
-passes at (suc k) (x ∷ s) = let again : at + 1 + k ≡ at + suc k = omega arith in passes (at + 1) k s ∙ ap (λ (n : ℕ). pieces n 0 (drop k s)) again
-
 -- at every place of the content a piece stands, and the cutting goes on behind it
 record Cutting (s : List ℕ) (i : ℕ) : Type 0 where
   piece : Piece
@@ -105,7 +100,7 @@ cutting s i h =
       stop = i + 1 + k;
       is =
           ap (pieces i 0) (drop-cons s i 0 h)
-          ∙ ap (λ (cs : List (ℕ × Piece)). (i, c .0) ∷ cs) (passes (i + 1) k rest ∙ ap (pieces (i + 1 + k) 0) (drop-drop k (suc i) s ∙ ap (λ (n : ℕ). drop n s) m));
+          ∙ ap (λ (cs : List (ℕ × Piece)). (i, c .0) ∷ cs) (pieces-skip (i + 1) k rest ∙ ap (pieces (i + 1 + k) 0) (drop-drop k (suc i) s ∙ ap (λ (n : ℕ). drop n s) m));
       low = omega arith;
     }
 
@@ -163,10 +158,6 @@ again s q kids i e (start n a false) g (long z y l) c v =
 nothing-held : (q : ℕ) (kids : Nodes) → Holds q kids (end ∷ []) → _≡_ {A = ℕ} 0 1
 unfolding contentAt
 nothing-held q kids (first e) = cc
-
-nothing-ahead : (s : List ℕ) (i : ℕ) → length s ≤ i → ahead s i ≡ end ∷ []
-unfolding pieces levels
-nothing-ahead s i h = rw (drop-of-length-le s h)
 
 -- Wherever in what is to come an element's content is held, the element's tag stands at its place.
 reread-from : (n : ℕ) (s : List ℕ) (q : ℕ) (kids : Nodes) (i : ℕ) → length s ≤ n + i → Holds q kids (ahead s i) → (c : Cut) → Stands s q c → Reread s c kids

@@ -20,6 +20,7 @@ use Rattle.cdi.specs.Access.{decoded}
 use Rattle.cdi.proofs.Quiet.{impossible}
 use Rattle.cdi.proofs.Tests.{both-left, both-right}
 use Rattle.scan.proofs.Tests.{lt-or-le}
+use Rattle.scan.proofs.Words.{begun-length}
 use Rattle.pieces.specs.Characters.{utf8Of, Encoded}
 use Rattle.pieces.specs.Cuts.{pieceOf, Stands}
 use Rattle.pieces.specs.Places.{part}
@@ -32,10 +33,11 @@ use Rattle.pass.specs.Asks.{from}
 use Rattle.pass.specs.Reading.{here}
 use Rattle.pass.proofs.Levels.{split}
 use Rattle.children.specs.Siblings.{ahead, Passed}
+use Rattle.children.proofs.Turning.{nothing-ahead}
 use Rattle.words.specs.declared.Role.{Role}
 use Rattle.words.specs.declared.Role.the-variants as role
 use Rattle.words.specs.Own.{roleOf, behindOf}
-use Rattle.words.proofs.Owning.{at-run, at-nothing, at-character, at-dropped, at-end, nothing-here}
+use Rattle.words.proofs.Owning.{at-run, at-nothing, at-character, at-dropped, at-end}
 
 -- ── a reference is to a character ──
 
@@ -192,13 +194,6 @@ module _ {s : List ℕ} {i : ℕ} {c : Cut} (v : Stands s i c) where
 
 -- ── a character in a text ──
 
--- a word that a text begins with is no longer than the text
-begun-length : (w u : List ℕ) → begins w u ≡ true → length w ≤ length u
-unfolding begins
-begun-length [] u e = omega arith
-begun-length (a ∷ w) [] e = impossible (cc)
-begun-length (a ∷ w) (b ∷ u) e = let l = begun-length w u (both-right (eqb a b) _ e) in omega arith
-
 front : (n : ℕ) (w : List ℕ) → take (length w) (padded n w) ≡ w
 unfolding padded
 front n w = take-at w _ (length w) refl
@@ -303,7 +298,7 @@ module _ {s : List ℕ} {at : ℕ} {t : List ℕ} {i k : ℕ} (w : Decoding s at
   decode-few = w .few
 
   pub decode-out : {b : Bool} → length s ≤ i → b ≡ same t (decoded (here s at))
-  decode-out h = absurd (omega (arith, w .deep, ap length (nothing-here s i h)))
+  decode-out h = absurd (omega (arith, w .deep, ap length (nothing-ahead s i h)))
 
   module _ {c : Cut} (v : Stands s i c) {r : Role} (e : r ≡ roleOf (c .kind)) where
     pub decode-end : {b : Bool} → r ≡ role.End → b ≡ eqb k (length t) → b ≡ same t (decoded (here s at))

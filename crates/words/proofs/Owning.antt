@@ -6,8 +6,8 @@ use mathlib.Core.Option.{none, some}
 use Prim.Native.Nat.{ℕ, _-_, _≤_, _<_}
 use native.Mathlib.Omega.{arith}
 use borrow.Author.Needs.{needs}
-use lib.ListN.{length, drop-of-length-le}
-use Rattle.cdi.specs.Pieces.{Attribute, start, remark, refer, text, pieces}
+use lib.ListN.{length}
+use Rattle.cdi.specs.Pieces.{Attribute, start, remark, refer, text}
 use Rattle.cdi.specs.Tree.{Nodes, end, element, other, grow, levels, top, tree}
 use Rattle.cdi.specs.Numbers.{number}
 use Rattle.cdi.specs.Rules.{ownText, ownNumber}
@@ -24,6 +24,7 @@ use Rattle.pass.specs.Asks.{from, nameIn, attributesIn}
 use Rattle.pass.specs.Reading.{here}
 use Rattle.pass.proofs.Levels.{split}
 use Rattle.children.specs.Siblings.{ahead}
+use Rattle.children.proofs.Turning.{nothing-ahead}
 use Rattle.words.specs.declared.Role.{Role}
 use Rattle.words.specs.declared.Role.the-variants as role
 use Rattle.words.specs.declared.Own.{Own}
@@ -139,10 +140,6 @@ module _ {s : List ℕ} {i : ℕ} {c : Cut} (v : Stands s i c) where
         let m = made-element s i c next-here next-around (c .kind) (sym e ∙ q) (rw grown at l) in
         (ap (λ (fs : List Nodes). isEnd (top fs)) grown ∙ m .0, ap (λ (fs : List Nodes). ownText (top fs)) grown ∙ m .1)
 
-pub nothing-here : (s : List ℕ) (i : ℕ) → length s ≤ i → ahead s i ≡ end ∷ []
-unfolding pieces levels
-nothing-here s i h = rw (drop-of-length-le s h)
-
 -- ── the end ──
 
 -- what is to come from i on is what was to come from `at` on
@@ -159,7 +156,7 @@ module _ {s : List ℕ} {at i : ℕ} (w : Same s at i) where
   here-is = unfold tree in ap top (w .is)
 
   out : length s ≤ i → ⊥
-  out h = omega (arith, w .deep, ap length (w .is), ap length (nothing-here s i h))
+  out h = omega (arith, w .deep, ap length (w .is), ap length (nothing-ahead s i h))
 
   pub end-out : length s ≤ i → true ≡ isEnd (here s at)
   end-out h = absurd (out h)
