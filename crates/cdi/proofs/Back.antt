@@ -38,15 +38,15 @@ passes true k cs e = clash (fault k 0) tt e
 passes false k cs e = (refl, e)
 
 -- what an accepted write has passed
-record Passed (w : Window) (v : Value) (s : Setting) : Type 0 where
-  allowed : (isFloat s || isMappedEvent s) ≡ false
-  kind : kindOfValue v ≡ s .variable .kind
-  bounds : inBounds s v ≡ true
-  text : isGoodText s v ≡ true
-  mapped : isAdmitted s v ≡ true
-  inside : isInside w (s .variable) ≡ true
+pub record Passed (w : Window) (v : Value) (s : Setting) : Type 0 where
+  pub allowed : (isFloat s || isMappedEvent s) ≡ false
+  pub kind : kindOfValue v ≡ s .variable .kind
+  pub bounds : inBounds s v ≡ true
+  pub text : isGoodText s v ≡ true
+  pub mapped : isAdmitted s v ≡ true
+  pub inside : isInside w (s .variable) ≡ true
 
-passed : (w : Window) (v : Value) (s : Setting) → firstCause (writeCauses w v s) ≡ accepted tt → Passed w v s
+pub passed : (w : Window) (v : Value) (s : Setting) → firstCause (writeCauses w v s) ≡ accepted tt → Passed w v s
 unfolding writeCauses
 passed w v s e =
     let a = passes _ 27 _ e in
@@ -67,12 +67,12 @@ passed w v s e =
 -- ── the window ──
 
 -- where the variable lies in it
-record Lies (w : Window) (v : Found) : Type 0 where
-  space : w .space ≡ v .space
-  low : w .first ≤ v .address
-  high : v .address + v .size ≤ w .first + length (w .bytes)
+pub record Lies (w : Window) (v : Found) : Type 0 where
+  pub space : w .space ≡ v .space
+  pub low : w .first ≤ v .address
+  pub high : v .address + v .size ≤ w .first + length (w .bytes)
 
-lies : (w : Window) (v : Found) → isInside w v ≡ true → Lies w v
+pub lies : (w : Window) (v : Found) → isInside w v ≡ true → Lies w v
 unfolding isInside
 lies w v h =
     let a = parts (eqb (w .space) (v .space)) (leb (w .first) (v .address) && leb (v .address + v .size) (w .first + length (w .bytes))) h in
@@ -122,12 +122,12 @@ no-zero (b ∷ s) h = by (eqb 0 b) refl h (no-zero s)
     by false e h rest = ((λ z. eqb-false 0 b e (sym z)), rest h)
 
 -- a text that may be written
-record GoodText (s : Setting) (t : List ℕ) : Type 0 where
-  zeros : any (eqb 0) t ≡ false
-  utf8 : isUtf8 t ≡ true
-  short : length t < s .variable .size
+pub record GoodText (s : Setting) (t : List ℕ) : Type 0 where
+  pub zeros : any (eqb 0) t ≡ false
+  pub utf8 : isUtf8 t ≡ true
+  pub short : length t < s .variable .size
 
-good-text : (s : Setting) (t : List ℕ) → isGoodText s (string t) ≡ true → GoodText s t
+pub good-text : (s : Setting) (t : List ℕ) → isGoodText s (string t) ≡ true → GoodText s t
 unfolding isGoodText
 good-text s t h =
     let a = parts (not (any (eqb 0) t)) (isUtf8 t && ltb (length t) (s .variable .size)) h in
@@ -153,7 +153,7 @@ text-back n t z u l =
     rw (e, zero-at 0 t (replicate (n - length t - 1) 0) (no-zero t z), zero-add, take-at t (0 ∷ replicate (n - length t - 1) 0) (length t) refl, u)
 
 -- a number between two that can be stored can be stored
-storable-between : (signed : Bool) (n : ℕ) (lo hi z : ℤ) → storable signed n lo ≡ true → storable signed n hi ≡ true → within lo hi z ≡ true → storable signed n z ≡ true
+pub storable-between : (signed : Bool) (n : ℕ) (lo hi z : ℤ) → storable signed n lo ≡ true → storable signed n hi ≡ true → within lo hi z ≡ true → storable signed n z ≡ true
 unfolding storable
 storable-between signed n lo hi z a b h =
     let l = ends (smallest signed n) (largest signed n) lo a .0 in
@@ -162,12 +162,12 @@ storable-between signed n lo hi z a b h =
     in-range (smallest signed n) (largest signed n) z (le-trans (smallest signed n) lo z l (m .0)) (le-trans z hi (largest signed n) (m .1) r)
 
 -- the sizes of ints, eventids and strings
-size-at-least : (k n : ℕ) → sizeFits k (pos n) ≡ true → k ≡ 3 → 1 ≤ n
+pub size-at-least : (k n : ℕ) → sizeFits k (pos n) ≡ true → k ≡ 3 → 1 ≤ n
 unfolding sizeFits oneOf any sameNumber
 size-at-least k zero h e = absurd (false≢true (rw e at h))
 size-at-least k (suc n) h e = omega arith
 
-event-size : (k n : ℕ) → sizeFits k (pos n) ≡ true → k ≡ 5 → n ≡ 8
+pub event-size : (k n : ℕ) → sizeFits k (pos n) ≡ true → k ≡ 5 → n ≡ 8
 unfolding sizeFits oneOf any sameNumber
 event-size k n h e = eqb-true n 8 (sym (or-false (eqb n 8)) ∙ (rw e at h))
 

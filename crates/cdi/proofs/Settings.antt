@@ -6,7 +6,7 @@ use mathlib.Core.Option.{some}
 use Prim.Native.Nat.{ℕ, _+_, _≤_}
 use native.Mathlib.Omega.{arith}
 use lib.IntN.{ℤ, pos}
-use Rattle.cdi.specs.Words.{ascii, given, same, among, words-page}
+use Rattle.cdi.specs.Words.{ascii, given, isSome, same, among, words-page}
 use Rattle.cdi.specs.Faults.{fault, Answer, accepted}
 use Rattle.cdi.specs.Pieces.{Attribute, Piece}
 use Rattle.cdi.specs.Tree.{Nodes, end, element, other, tree}
@@ -149,7 +149,7 @@ module _ (t : List ℤ) (whole : Nodes) where
 
 -- ── settings ──
 
-described-nodes : (t u : Nodes) → describe t u .nodes ≡ t
+pub described-nodes : (t u : Nodes) → describe t u .nodes ≡ t
 unfolding describe
 described-nodes t end = refl
 described-nodes t (other p c following) = described-nodes t following
@@ -170,6 +170,12 @@ accepted-stand b t d e q = by (stages b d e)
           finds = λ p k f. f;
         } in
         rw m (rw (h .told) at (described-stand t whole documentRow false nothingBefore whole whole lies (rw (h .told, q) (table-held (d .segments)))))
+
+-- The place in its record is that of an element of the tree.
+pub variable-stands : (b : List ℕ) (t : List ℤ) (n : ℕ) (d : Description) (v : Found) → described b ≡ accepted d → t ≡ tableOf (d .segments) → variableOf (d .segments) n ≡ accepted v
+    → isSome (contentAt (placeOf t (v .number)) (d .nodes)) ≡ true
+unfolding isSome
+variable-stands b t n d v e q f = rw (stand-found (VariableFits t (d .nodes)) (d .segments) n v (accepted-stand b t d e q) f .stands)
 
 -- what holds of a variable's kind and size, and of an int's bounds
 pub record SettingFits (s : Setting) : Type 0 where

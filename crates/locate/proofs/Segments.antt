@@ -19,7 +19,7 @@ use Rattle.cdi.specs.Plans.{field, extraOf, nextOf, segmentFits, told, itemsIn,
 use Rattle.cdi.proofs.Tests.{parts, both-left, both-right}
 use Rattle.cdi.proofs.Signs.{same-number}
 use Rattle.locate.specs.Judging.{goodIn}
-use Rattle.locate.specs.Finding.{toldOf, answer, insideOf, standing, Finds, Site}
+use Rattle.locate.specs.Finding.{toldOf, answer, insideOf, standing, Held, Finds, Site}
 use Rattle.locate.specs.declared.Located.{Located}
 use Rattle.locate.specs.declared.Located.the-variants.{Variable as At, NotAPlan, NoVariable}
 use Rattle.locate.proofs.Numbers.{nots}
@@ -184,13 +184,21 @@ module _ {w : ℕ} where
     unfolding toldOf standing
     told-is t space ez ek = rw (ez, ek) (sym (rw (ne-eqb w 18446744073709551615 h)))
 
-pub ruleset standing-for = (told-none, told-record, told-is, needs)
+pub none-held : (t : List ℤ) → Held t NoVariable
+unfolding Held
+none-held t = tt
+
+pub told-held : (t : List ℤ) (r s a z k : ℕ) → r * 8 + 8 ≤ length t → Held t (At r s a z k)
+unfolding Held
+told-held t r s a z k h = h
+
+pub ruleset standing-for = (told-none, told-record, told-is, none-held, told-held, needs)
 
 -- it stands in a record of the table
 pub found-held : {t : List ℤ} {i e a n w : ℕ} → Finds t i e a n w → (w ≡ 18446744073709551615 → ⊥) → w % 4096 * 8 + 8 ≤ length t
 found-held f = f .held
 
-pub ruleset passing = (begin, no-segment, skip, enters, needs)
+pub ruleset passing = (begin, no-segment, skip, enters, none-held, needs)
 
 pub ruleset into-segment = (top-first, top-last, segment-site, few-before, found-held, needs)
 

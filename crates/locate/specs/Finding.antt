@@ -23,6 +23,12 @@ toldOf (At r s a z k) = accepted (record { number = r; space = s; address = a; s
 toldOf NotAPlan = refused (fault 20 0)
 toldOf NoVariable = refused (fault 21 0)
 
+-- a variable's record is one of the table
+unfoldable pub Held : List ℤ → Located → Type 0
+Held t (At r s a z k) = r * 8 + 8 ≤ length t
+Held t NotAPlan = Unit
+Held t NoVariable = Unit
+
 -- a variable of a segment as an answer
 unfoldable pub answer : ℕ → Variable → Answer Found
 answer space v = accepted (found space v)
@@ -85,5 +91,5 @@ pub record Chosen (t : List ℤ) (i a n : ℕ) : Type 0 where
   pub low : n / eachOf t i * ((allFall t i - allRise t i) / replicationOf t i) ≤ a
 
 unfoldable pub finding-page : Unit {0}
-unfolding toldOf answer insideOf standing movedBy allRise allFall eachOf copyAt copyOf
+unfolding toldOf Held answer insideOf standing movedBy allRise allFall eachOf copyAt copyOf
 finding-page = tt

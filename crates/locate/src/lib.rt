@@ -21,7 +21,7 @@ ghost use mathlib.Core.Bool.{true};
 ghost use Prim.Native.Nat.{_≤_, _+_, _*_, _%_};
 ghost use lib.ListN.{length};
 ghost use Rattle.cdi.specs.Plans.{isPlan, segmentsOf, variableOf, locating};
-ghost use Rattle.locate.specs.Finding.{toldOf, standing};
+ghost use Rattle.locate.specs.Finding.{toldOf, standing, Held};
 
 // "it has at most 4,095 records"
 const MOST_RECORDS: usize = 4095;
@@ -57,7 +57,8 @@ pub fn is_plan(table: &[i64]) -> bool
 // What `find_in` found, as the answer for a segment of this space.
 fn told(table: &[i64], space: u64, found: u64) -> Located
     requires { ⌜ ((found ≡ 18446744073709551615 → ⊥) → found % 4096 * 8 + 8 ≤ length (now table)) ⌝ }
-    ensures { λ r. ⌜ toldOf r ≡ standing (now (table .entry)) space found ⌝ }
+    ensures is { λ r. ⌜ toldOf r ≡ standing (now (table .entry)) space found ⌝ }
+    ensures held { λ r. ⌜ Held (now (table .entry)) r ⌝ }
 {
     if found == NOWHERE {
         return Located::NoVariable;
@@ -77,7 +78,8 @@ fn told(table: &[i64], space: u64, found: u64) -> Located
 // Variable `n` of a table that is known to be a plan: what a caller repeats once the test has passed.
 pub fn find(table: &[i64], n: u64) -> Located
     requires { ⌜ isPlan (now table) ≡ true ⌝ }
-    ensures { λ r. ⌜ toldOf r ≡ variableOf (segmentsOf (now (table .entry))) n ⌝ }
+    ensures is { λ r. ⌜ toldOf r ≡ variableOf (segmentsOf (now (table .entry))) n ⌝ }
+    ensures held { λ r. ⌜ Held (now (table .entry)) r ⌝ }
 {
     let records = table.len() / NUMBERS;
     let mut i = 0;

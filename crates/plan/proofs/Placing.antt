@@ -92,7 +92,7 @@ pub ruleset putting = (no-room, not-put, in-room, is-put, needs)
 
 module _ (b : List ℕ) (r t : List ℤ) {a : Planned} (e : saidOf a r ≡ outlineOf b) where
   module _ {n p : ℕ} (q : a ≡ Refused n p) where
-    not-described : described b ≡ refused (fault n p)
+    pub not-described : described b ≡ refused (fault n p)
     unfolding outlineOf saidOf outlined
     not-described = by (described b) (sym (ap (λ x. saidOf x r) q) ∙ e)
       where
@@ -109,7 +109,7 @@ module _ (b : List ℕ) (r t : List ℤ) {a : Planned} (e : saidOf a r ≡ outli
 
   module _ {n v : ℕ} (q : a ≡ Accepted n v) where
     -- what the text describes
-    is-described : {P : Type 0} → ((d : Description) → described b ≡ accepted d → n ≡ recordsOf (d .segments) → v ≡ total (d .segments) → take (8 * n) r ≡ tableOf (d .segments) → P) → P
+    pub is-described : {P : Type 0} → ((d : Description) → described b ≡ accepted d → n ≡ recordsOf (d .segments) → v ≡ total (d .segments) → take (8 * n) r ≡ tableOf (d .segments) → P) → P
     unfolding outlineOf saidOf outlined
     is-described {P} f = by (described b) refl (sym (ap (λ x. saidOf x r) q) ∙ e)
       where

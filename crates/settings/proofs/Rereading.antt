@@ -173,6 +173,32 @@ reread-from (suc n) s q kids i h x c v = ⊎-elim
     (λ l. impossible (nothing-held q kids (subst (Holds q kids) (nothing-ahead s i l) x)))
     (lt-or-le i (length s))
 
+begins-at : {q : ℕ} {kids : Nodes} {p : ℕ} {l : List Nodes} {c : Piece} → Begins q kids p l c → p ≡ q
+begins-at (short e k) = e
+begins-at (long e k h) = e
+
+-- Its place is one of the content.
+place-from : (n : ℕ) (s : List ℕ) (q : ℕ) (kids : Nodes) (i : ℕ) → length s ≤ n + i → Holds q kids (ahead s i) → q < length s
+unfolding levels
+place-from zero s q kids i h x = impossible (nothing-held q kids (subst (Holds q kids) (nothing-ahead s i (omega arith)) x))
+place-from (suc n) s q kids i h x = ⊎-elim
+    (λ l.
+    let k = cutting s i l in
+    ⊎-elim
+    (λ y. place-from n s q kids (k .stop) (omega (arith, k .low)) y)
+    (λ y. omega (arith, begins-at y))
+    (step q kids i (k .piece) (ahead s (k .stop)) (subst (Holds q kids) (ap levels (k .is)) x)))
+    (λ l. impossible (nothing-held q kids (subst (Holds q kids) (nothing-ahead s i l) x)))
+    (lt-or-le i (length s))
+
+pub content-place : (s : List ℕ) (f q : ℕ) → isSome (contentAt q (here s f)) ≡ true → q < length s
+unfolding isSome
+content-place s f q h = by (contentAt q (here s f)) refl
+  where
+    by : (o : Option Nodes) → contentAt q (here s f) ≡ o → q < length s
+    by none e = let y = rw e at h in impossible (cc)
+    by (some kids) e = place-from (length s) s q kids f (omega arith) (subst (Holds q kids) (sym (split (from s f))) (first e))
+
 module _ (s : List ℕ) (f q : ℕ) {c : Cut} (v : Stands s q c) where
   -- cutting again at an element's place
   pub reread : {kids : Nodes} → contentAt q (here s f) ≡ some kids → Reread s c kids

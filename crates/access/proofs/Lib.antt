@@ -1,0 +1,6 @@
+pub mod Comparing
+pub mod Seeking
+pub mod Deciding
+pub mod Storing
+pub mod Fetching
+pub mod Accessing
