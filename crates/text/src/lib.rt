@@ -7,7 +7,7 @@ ghost use Prim.Native.Nat.{_+_, _*_, _-_, _≤_};
 ghost use lib.ListN.{drop};
 ghost use Rattle.cdi.specs.Words.{begins, between};
 ghost use Rattle.cdi.specs.Text.{continues, scalar, sequence as sequenceOf, characterAt, badFrom, isChar, allowed, badCharacter, isUtf8, firstLine};
-ghost use Rattle.text.specs.Answers.{endAnswer, ending, characterOf, placeOf, ofSet, widthIn};
+ghost use Rattle.text.specs.Answers.{endAnswer, ending, characterOf, placeOf, ofSet, widthIn, plain};
 
 // The last place where the zero that ends the content may stand.
 const LAST: usize = 65535;
@@ -247,17 +247,34 @@ fn width_at(s: &[u8], at: usize, set: Set) -> usize
     0
 }
 
+// Is the byte by itself a character that both sets have, as most bytes are?
+fn is_plain(b: u8) -> bool
+    ensures { λ r. ⌜ r ≡ plain b ⌝ }
+{
+    if b < 32 {
+        if b == 9 {
+            return true;
+        }
+        return b == 10;
+    }
+    b <= 127
+}
+
 // The first place where no character of the set stands.
 fn first_bad(s: &[u8], set: Set) -> Place
     ensures { λ r. ⌜ placeOf r ≡ badFrom (ofSet set) 0 0 (now (s .entry)) ⌝ }
 {
     let mut i = 0;
     while i < s.len() {
-        let width = width_at(s, i, set);
-        if width == 0 {
-            return Place::At(i);
+        if is_plain(s[i]) {
+            i += 1;
+        } else {
+            let width = width_at(s, i, set);
+            if width == 0 {
+                return Place::At(i);
+            }
+            i += width;
         }
-        i += width;
     }
     Place::Nothing
 }

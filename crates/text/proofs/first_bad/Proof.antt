@@ -17,6 +17,11 @@ first-bad-spec =
     Inv-loop
     μ-loop
     (λ c. search character-loop)
+    (λ c. search character-loop)
+    (λ c κs. search character-loop)
+    (λ c. search character-loop)
+    (λ c. search character-loop)
+    (λ c. search character-loop)
     (λ c κs. search character-loop)
     (λ c. search character-loop)
     (λ c. search character-loop)
