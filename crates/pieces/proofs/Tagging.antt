@@ -1,5 +1,5 @@
 -- Start tags.
-use mathlib.Core.Path.{_≡_, refl}
+use mathlib.Core.Path.{_≡_, refl, sym, ap}
 use mathlib.Core.List.{List, [], _∷_}
 use mathlib.Core.Bool.{Bool, true, false, cond}
 use mathlib.Core.Option.{none, some}
@@ -9,7 +9,7 @@ use borrow.Author.Needs.{needs}
 use borrow.Author.Tests.{eq-eqb, ne-eqb}
 use lib.ListN.{length, drop}
 use lib.Seq.{drop-drop}
-use Rattle.cdi.specs.Words.{_>>=_, while, begins}
+use Rattle.cdi.specs.Words.{_>>=_, any, while, begins}
 use Rattle.cdi.specs.Pieces.{start, attributes, twice, startTag, orMalformed}
 use Rattle.cdi.specs.Markup.{refers}
 use Rattle.scan.specs.Spans.{ofClass, Span}
@@ -47,7 +47,15 @@ module _ (s : List ℕ) (n e : ℕ) (k : Bool) {d : Bool} (w : d ≡ twice (attr
     high = h;
   })
 
-pub ruleset a-start-tag = (nothing, name-twice, a-tag, needs)
+-- a tag without attributes has no name twice and refers to nothing
+pub bare-tag : (s : List ℕ) (n e : ℕ) (k : Bool) {l : ℕ} → Closes s n l → l ≡ n → 1 ≤ n → n ≤ e → 1 ≤ e → e ≤ length s
+    → Cuts s 0 (orMalformed (tagOf s n e k)) (record { kind = Start; name = 1; behind = n; end = e; solid = 0; code = 0; short = k; refers = false })
+unfolding twice refers any
+bare-tag s n e k {l} v f =
+    let z : attributes 0 (drop n s) ≡ [] = rw (← f) (v .all) in
+    a-tag s n e k {d = false} (sym (ap twice z)) refl (sym (ap refers z))
+
+pub ruleset a-start-tag = (nothing, name-twice, a-tag, bare-tag, needs)
 
 module _ (s : List ℕ) {n : ℕ} (v : Name s 1 n) where
   pub untagged : n ≡ 1 → startTag (drop 1 s) ≡ none

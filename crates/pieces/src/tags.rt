@@ -5,8 +5,10 @@ ghost use lib.ListN.{length, drop};
 ghost use Rattle.cdi.specs.Pieces.{orMalformed, startTag, endTag};
 ghost use Rattle.pieces.specs.Places.{Closes};
 ghost use Rattle.pieces.specs.Cuts.{tagOf, Cuts};
+use super::attributes::has_many;
 use super::attributes::has_reference;
-use super::attributes::is_twice;
+use super::attributes::is_plainly_twice;
+use super::attributes::is_twice_among_many;
 use super::attributes::next_attribute;
 use super::cuts::malformed;
 use super::names::name_end;
@@ -57,12 +59,56 @@ fn attributes_end(s: &[u8], at: usize) -> usize
     }
 }
 
-// A start tag whose name ends before `behind`, and which closes before `end`, in the short form or not.
-fn tag(s: &[u8], behind: usize, end: usize, short: bool) -> Cut
+// Are the attributes from this place to before `last` so many that a table of their names pays? 16 have at least 80 bytes. Nothing rests on it.
+fn is_wide(s: &[u8], at: usize, last: usize) -> bool
+    requires { ⌜ (at ≤ last) × (last ≤ length (now s)) ⌝ }
+{
+    if last - at < 80 {
+        return false;
+    }
+    has_many(s, at)
+}
+
+// A start tag of many attributes, whose name ends before `behind`, and which closes before `end`, in the short form or not. It stands by itself
+// since the tables of names take much room.
+fn wide_tag(s: &[u8], behind: usize, end: usize, short: bool) -> Cut
     requires { ⌜ (1 ≤ behind) × (behind ≤ end) × (1 ≤ end) × (end ≤ length (now s)) ⌝ }
     ensures { λ r. ⌜ Cuts (now (s .entry)) 0 (orMalformed (tagOf (now (s .entry)) behind end short)) r ⌝ }
 {
-    if is_twice(s, behind) {
+    if is_twice_among_many(s, behind) {
+        return malformed(s);
+    }
+    let refers = has_reference(s, behind);
+    Cut {
+        kind: Kind::Start,
+        name: 1,
+        behind,
+        end,
+        solid: 0,
+        code: 0,
+        short,
+        refers,
+    }
+}
+
+// The same of few attributes, the last of which ends before `last`, or of none.
+fn tag(s: &[u8], behind: usize, last: usize, end: usize, short: bool) -> Cut
+    requires { ⌜ (Closes (now s) behind last) × (1 ≤ behind) × (behind ≤ end) × (1 ≤ end) × (end ≤ length (now s)) ⌝ }
+    ensures { λ r. ⌜ Cuts (now (s .entry)) 0 (orMalformed (tagOf (now (s .entry)) behind end short)) r ⌝ }
+{
+    if last == behind {
+        return Cut {
+            kind: Kind::Start,
+            name: 1,
+            behind,
+            end,
+            solid: 0,
+            code: 0,
+            short,
+            refers: false,
+        };
+    }
+    if is_plainly_twice(s, behind) {
         return malformed(s);
     }
     let refers = has_reference(s, behind);
@@ -89,11 +135,18 @@ pub fn start_tag(s: &[u8]) -> Cut
     }
     let last = attributes_end(s, behind);
     let close = span(s, last, Class::Blank);
+    let wide = is_wide(s, behind, last);
     if begins_at(s, close, b">") {
-        return tag(s, behind, close + 1, false);
+        if wide {
+            return wide_tag(s, behind, close + 1, false);
+        }
+        return tag(s, behind, last, close + 1, false);
     }
     if begins_at(s, close, b"/>") {
-        return tag(s, behind, close + 2, true);
+        if wide {
+            return wide_tag(s, behind, close + 2, true);
+        }
+        return tag(s, behind, last, close + 2, true);
     }
     malformed(s)
 }
