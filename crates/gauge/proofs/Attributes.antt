@@ -1,6 +1,6 @@
 -- Reading the numbers of a tag, as the code does it.
 use mathlib.Core.Path.{_≡_, refl, sym, ap, _∙_}
-use mathlib.Core.List.{List}
+use mathlib.Core.List.{List, []}
 use mathlib.Core.Bool.{Bool, true, false, cond, _&&_}
 use mathlib.Core.Option.{Option, none, some}
 use Prim.Native.Nat.{ℕ, zero, suc, _-_, _^_, _≤_}
@@ -29,7 +29,9 @@ use Rattle.numbers.specs.declared.Number.{Number}
 use Rattle.numbers.specs.declared.Number.the-variants.{Is, Not}
 use Rattle.numbers.specs.declared.Range.{Range}
 use Rattle.pieces.specs.Places.{part, Valued}
+use Rattle.pieces.specs.Orders.{Shows}
 use Rattle.pieces.specs.declared.attributes.Value.{Value}
+use Rattle.gauge.specs.declared.Numbers.{Numbers}
 use Rattle.gauge.specs.Gauging.{from-to}
 use Rattle.gauge.specs.Numbered.{Ranged, numberIn, naturalIn, offsetIn, sizeBy, numbersBy}
 
@@ -293,4 +295,29 @@ module _ (k : ℕ) (s : List Attribute) {o : ℤ} {a b c d : ℕ} (f : SFits w64
   pub are-ranged : Ranged (record { offset = read o; size = a; replication = b; origin = c; space = d })
   are-ranged = rw numbers-are (numbers-ranged k s)
 
-pub ruleset tagged = (numbers-are, are-ranged, needs)
+-- the numbers of a tag that has no attributes
+module _ (k : ℕ) where
+  pub bare-eventid : k ≡ 8 → 8 ≡ sizeBy k []
+  bare-eventid e = size-eventid k [] e
+
+  pub bare-other : (k ≡ 8 → ⊥) → 1 ≡ sizeBy k []
+  bare-other e = size-other k [] e none-there
+    where
+      none-there : 1 ≡ naturalIn 1 65535 (ascii "size") []
+      none-there = unfold naturalIn numberOr valueOf from-to between natural in refl
+
+pub ruleset bare-sizes = (bare-eventid, bare-other, needs)
+
+module _ (k : ℕ) {a : ℕ} (p : a ≡ sizeBy k []) where
+  pub bare-are : record { offset = pos 0; size = a; replication = 1; origin = 0; space = 0 } ≡ numbersBy k []
+  unfolding numbersBy naturalIn offsetIn offsetOf offsetFits numberOr valueOf from-to between natural within
+  bare-are = rw p
+
+  pub bare-ranged : Ranged (record { offset = pos 0; size = a; replication = 1; origin = 0; space = 0 })
+  bare-ranged = rw bare-are (numbers-ranged k [])
+
+module _ (k at : ℕ) (s : List ℕ) {t : Bool} (v : Shows t (attributes 0 (drop at s) ≡ [])) (x : t ≡ true) where
+  pub as-bare : {r : Numbers} → r ≡ numbersBy k [] → r ≡ numbersBy k (attributes 0 (drop at s))
+  as-bare h = h ∙ ap (numbersBy k) (sym (v .is x))
+
+pub ruleset tagged = (numbers-are, are-ranged, bare-are, bare-ranged, as-bare, needs)

@@ -2,6 +2,7 @@
 // offset: such a tag is refused elsewhere.
 
 ghost use mathlib.Core.Path.{_≡_};
+ghost use mathlib.Core.List.{[]};
 ghost use Prim.Native.Nat.{_≤_};
 ghost use lib.ListN.{length, drop};
 ghost use Rattle.cdi.specs.Pieces.{attributes};
@@ -12,6 +13,7 @@ use numbers::Number;
 use numbers::Range;
 use numbers::is_within;
 use numbers::read_number;
+use pieces::attributes::is_plainly_bare;
 use pieces::attributes::value_of;
 
 // The number of the name `eventid`, and the size of one.
@@ -110,11 +112,38 @@ fn size_in(s: &[u8], at: usize, element: u8) -> u64
     natural_in(s, at, b"size", 1, MOST_SIZE)
 }
 
+// The size of a variable whose tag has no attributes.
+fn bare_size(element: u8) -> u64
+    ensures { λ r. ⌜ r ≡ sizeBy element [] ⌝ }
+{
+    if element == EVENTID {
+        return EVENTID_SIZE;
+    }
+    1
+}
+
+// The numbers of a tag that has no attributes.
+fn bare_numbers(element: u8) -> Numbers
+    ensures { λ r. ⌜ (r ≡ numbersBy element []) × Ranged r ⌝ }
+{
+    let size = bare_size(element);
+    Numbers {
+        offset: 0,
+        size,
+        replication: 1,
+        origin: 0,
+        space: 0,
+    }
+}
+
 // The numbers of the tag whose attributes begin at this place.
 pub fn numbers_of(s: &[u8], at: usize, element: u8) -> Numbers
     requires { ⌜ at ≤ length (now s) ⌝ }
     ensures { λ r. ⌜ (r ≡ numbersBy element (attributes 0 (drop at (now (s .entry))))) × Ranged r ⌝ }
 {
+    if is_plainly_bare(s, at) {
+        return bare_numbers(element);
+    }
     let offset = offset_in(s, at);
     let size = size_in(s, at, element);
     let replication = natural_in(s, at, b"replication", 1, MOST_COPIES);

@@ -18,6 +18,7 @@ use Rattle.cdi.specs.Rules.{valueOf}
 use Rattle.scan.proofs.Along.{drop-next}
 use Rattle.scan.proofs.Tests.{lt-or-le, eq-or-ne}
 use Rattle.pieces.specs.Places.{part, attributeOf, attributeFrom, Next, valueFrom, Valued, closing, Closes}
+use Rattle.pieces.specs.Orders.{Shows}
 use Rattle.pieces.specs.declared.attributes.Attribute.{Attribute as Places}
 
 -- the bytes that are still to pass end at a place
@@ -297,3 +298,9 @@ module _ {s : List ℕ} {at i n : ℕ} (w : Counted s at i n) where
         record { left = omega (arith, w .left); high = v .ordered .high }
 
 pub ruleset count-attributes = (uncounted, many, few, one-counted, less, needs)
+
+-- ── a tag without attributes ──
+
+pub bare : (s : List ℕ) (at : ℕ) {b : ℕ} {r : Bool} → b ≡ getD s at 0 → r ≡ blank b → r ≡ false → Shows true (attributes 0 (drop at s) ≡ [])
+unfolding attributes
+bare s at e f g = record { is = λ t. ⊎-elim (λ h. rw (drop-next s at h, ← e, ← f, g)) (λ h. rw (drop-of-length-le s h)) (lt-or-le at (length s)) }

@@ -27,6 +27,7 @@ use Rattle.numbers.specs.declared.Range.{Range}
 use Rattle.numbers.specs.declared.Number.{Number}
 use Rattle.numbers.specs.declared.Number.the-variants.{Is, Not}
 use Rattle.pieces.specs.Places.{part, Next, Valued}
+use Rattle.pieces.specs.Orders.{Shows}
 use Rattle.pieces.specs.declared.attributes.Attribute.{Attribute as Places}
 use Rattle.pieces.specs.declared.attributes.Value.{Value}
 use Rattle.pieces.proofs.Walking.{no-more, one-more, less, Walking, walk}
@@ -303,22 +304,19 @@ row-knows e a h g k =
     by true x y z = refl
     by false x y z = refl
 
-pub attributes-told : (l : Least) {u f g r : Least} (p e at : ℕ) (s : List ℕ) {one two three a b c : ℕ} {t : Bool}
+pub attributes-told : (l : Least) {u f g r : Least} (p e : ℕ) (s : List Attribute) {one two three a b c : ℕ} {t : Bool}
     → one ≡ ruleAt e 0 → one ≤ 12 → two ≡ ruleAt e 1 → two ≤ 12 → three ≡ ruleAt e 2 → three ≤ 12
     → a ≡ attributeOf one → b ≡ attributeOf two → c ≡ attributeOf three
-    → t ≡ all (hasNumber a b c) (attributes 0 (drop at s))
+    → t ≡ all (hasNumber a b c) s
     → u ≡ blamed l (unless t (fault 8 p))
-    → f ≡ blamed u (rulesFaults p (ruleOf one) (attributes 0 (drop at s)))
-    → g ≡ blamed f (rulesFaults p (ruleOf two) (attributes 0 (drop at s)))
-    → r ≡ blamed g (rulesFaults p (ruleOf three) (attributes 0 (drop at s)))
-    → r ≡ blamed l (attributeFaults p (rowAt e) (attributes 0 (drop at s)))
+    → f ≡ blamed u (rulesFaults p (ruleOf one) s)
+    → g ≡ blamed f (rulesFaults p (ruleOf two) s)
+    → r ≡ blamed g (rulesFaults p (ruleOf three) s)
+    → r ≡ blamed l (attributeFaults p (rowAt e) s)
 unfolding attributeFaults
-attributes-told l p e at s {one} {two} {three} {a} {b} {c} {t} x xh y yh z zh ea eb ec et eu ef eg er =
+attributes-told l p e s {one} {two} {three} {a} {b} {c} {t} x xh y yh z zh ea eb ec et eu ef eg er =
     blamed-in-turn l _ _ eu (blamed-in-turn _ _ _ ef (blamed-in-turn _ _ _ eg er)) ∙ ap (blamed l) (rw (all-same, rules-same))
   where
-    attrs : List Attribute
-    attrs = attributes 0 (drop at s)
-
     first : ruleAt e 0 ≤ 12
     first = omega (arith, x, xh)
 
@@ -328,10 +326,40 @@ attributes-told l p e at s {one} {two} {three} {a} {b} {c} {t} x xh y yh z zh ea
     third : ruleAt e 2 ≤ 12
     third = omega (arith, z, zh)
 
-    all-same : t ≡ all (known (rowAt e .attributes)) (attributes 0 (drop at s))
-    all-same = et ∙ rw (ea, eb, ec, x, y, z) (sym (all-alike _ _ (λ q. row-knows e q first second third) (attributes 0 (drop at s))))
+    all-same : t ≡ all (known (rowAt e .attributes)) s
+    all-same = et ∙ rw (ea, eb, ec, x, y, z) (sym (all-alike _ _ (λ q. row-knows e q first second third) s))
 
-    rules-same : rulesFaults p (ruleOf one) (attributes 0 (drop at s)) ++ (rulesFaults p (ruleOf two) (attributes 0 (drop at s)) ++ rulesFaults p (ruleOf three) (attributes 0 (drop at s))) ≡ rulesFaults p (rowAt e .attributes) (attributes 0 (drop at s))
+    rules-same : rulesFaults p (ruleOf one) s ++ (rulesFaults p (ruleOf two) s ++ rulesFaults p (ruleOf three) s) ≡ rulesFaults p (rowAt e .attributes) s
     rules-same = rw (x, y, z, row-rules e, rules-append p (ruleOf (ruleAt e 0)), rules-append p (ruleOf (ruleAt e 1)))
 
-pub ruleset attribute-faults = (attributes-told, needs)
+-- the faults of a tag that has no attributes: those that must be there
+bare-rule : (p k : ℕ) → k ≤ 12 → rulesFaults p (ruleOf k) [] ≡ unless (not (isRequired k)) (fault 8 p)
+unfolding rulesFaults ruleFaults valueOf
+bare-rule p zero h = unfold unless tables-page in refl
+bare-rule p (suc j) h = rw (rule-is (suc j) (λ z. omega arith) h) (append-nil (unless (not (isRequired (suc j))) (fault 8 p)))
+
+module _ (l : Least) (p k : ℕ) {t : Bool} (h : k ≤ 12) (q : t ≡ isRequired k) where
+  pub bare-missing : {r : Least} → t ≡ true → r ≡ blamed l (fault 8 p ∷ []) → r ≡ blamed l (rulesFaults p (ruleOf k) [])
+  unfolding unless
+  bare-missing x g = g ∙ ap (blamed l) (sym (bare-rule p k h ∙ rw (← q, x)))
+
+  pub bare-optional : t ≡ false → l ≡ blamed l (rulesFaults p (ruleOf k) [])
+  unfolding unless
+  bare-optional x = blamed-none l ∙ ap (blamed l) (sym (bare-rule p k h ∙ rw (← q, x)))
+
+pub ruleset bare-rules = (bare-missing, bare-optional, needs)
+
+pub bare-told : (l : Least) {f g r : Least} (p e : ℕ) {one two three : ℕ}
+    → one ≡ ruleAt e 0 → one ≤ 12 → two ≡ ruleAt e 1 → two ≤ 12 → three ≡ ruleAt e 2 → three ≤ 12
+    → f ≡ blamed l (rulesFaults p (ruleOf one) [])
+    → g ≡ blamed f (rulesFaults p (ruleOf two) [])
+    → r ≡ blamed g (rulesFaults p (ruleOf three) [])
+    → r ≡ blamed l (attributeFaults p (rowAt e) [])
+unfolding all unless
+bare-told l p e x xh y yh z zh ef eg er = attributes-told l p e [] x xh y yh z zh refl refl refl refl (blamed-none l) ef eg er
+
+pub bare-attributes : (l : Least) {r : Least} (p e at : ℕ) (s : List ℕ) {t : Bool} → Shows t (attributes 0 (drop at s) ≡ []) → t ≡ true
+    → r ≡ blamed l (attributeFaults p (rowAt e) []) → r ≡ blamed l (attributeFaults p (rowAt e) (attributes 0 (drop at s)))
+bare-attributes l p e at s v x h = h ∙ ap (λ a. blamed l (attributeFaults p (rowAt e) a)) (sym (v .is x))
+
+pub ruleset attribute-faults = (attributes-told, bare-told, bare-attributes, needs)

@@ -2,6 +2,7 @@
 // stand at the tag's `<`. A tag's attributes begin behind its name.
 
 ghost use mathlib.Core.Path.{_≡_};
+ghost use mathlib.Core.List.{[]};
 ghost use Prim.Native.Nat.{_≤_, _<_};
 ghost use lib.ListN.{length, drop};
 ghost use Rattle.cdi.specs.Words.{same as sameBytes, all};
@@ -26,6 +27,7 @@ use numbers::is_formatting;
 use numbers::is_within;
 use numbers::read_number;
 use pieces::attributes::Value;
+use pieces::attributes::is_plainly_bare;
 use pieces::attributes::next_attribute;
 use pieces::attributes::value_of;
 use scan::same;
@@ -221,11 +223,34 @@ fn rule_blame(least: Least, s: &[u8], at: usize, rule: u8, place: usize) -> Leas
     least
 }
 
+// The least with the fault of a rule's attribute in a tag that has none.
+fn required_blame(least: Least, rule: u8, place: usize) -> Least
+    requires { ⌜ rule ≤ 12 ⌝ }
+    ensures { λ r. ⌜ r ≡ blamed least (rulesFaults place (ruleOf rule) []) ⌝ }
+{
+    if is_required(rule) {
+        return blame(least, 8, place);
+    }
+    least
+}
+
+// The least with the faults of a tag of that element that has no attributes.
+fn bare_blame(least: Least, element: u8, place: usize) -> Least
+    ensures { λ r. ⌜ r ≡ blamed least (attributeFaults place (rowAt element) []) ⌝ }
+{
+    let first = required_blame(least, rule_at(element, 0), place);
+    let second = required_blame(first, rule_at(element, 1), place);
+    required_blame(second, rule_at(element, 2), place)
+}
+
 // The least with the faults of the attributes from this place on, in the tag of that element.
 pub fn attribute_blame(least: Least, s: &[u8], at: usize, element: u8, place: usize) -> Least
     requires { ⌜ at ≤ length (now s) ⌝ }
     ensures { λ r. ⌜ r ≡ blamed least (attributeFaults place (rowAt element) (attributes 0 (drop at (now (s .entry))))) ⌝ }
 {
+    if is_plainly_bare(s, at) {
+        return bare_blame(least, element, place);
+    }
     let one = rule_at(element, 0);
     let two = rule_at(element, 1);
     let three = rule_at(element, 2);

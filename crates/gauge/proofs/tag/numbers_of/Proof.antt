@@ -8,6 +8,9 @@ numbers-of-spec =
     tie.close (tie.spec
     (λ c κs. search needs)
     (λ c κs. search needs)
+    (λ c. search tagged)
+    (λ c κs. search needs)
+    (λ c κs. search needs)
     (λ c. search needs)
     (λ c κs. search needs)
     (λ c. search needs)

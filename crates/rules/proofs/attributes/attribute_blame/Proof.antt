@@ -8,6 +8,9 @@ attribute-blame-spec =
     tie.close (tie.spec
     (λ c κs. search needs)
     (λ c κs. search needs)
+    (λ c. search attribute-faults)
+    (λ c κs. search needs)
+    (λ c κs. search needs)
     (λ c κs. search needs)
     (λ c κs. search needs)
     (λ c κs. search needs)
