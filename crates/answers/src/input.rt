@@ -4,6 +4,7 @@ ghost use mathlib.Core.Path.{_≡_};
 ghost use mathlib.Core.Bool.{true};
 ghost use Prim.Native.Nat.{_+_, _*_, _≤_, _<_, _^_};
 ghost use lib.ListN.{length};
+ghost use Rattle.cdi.specs.Values.{uncomplement};
 ghost use Rattle.answers.specs.Limits.{keeps};
 
 // A number that was read, or the input ended in it or it is beyond its limit.
@@ -80,7 +81,9 @@ fn eight_at(b: &[u8], at: usize) -> u64
 }
 
 // Two's complement.
-pub fn signed(v: u64) -> i64 {
+pub fn signed(v: u64) -> i64
+    ensures { λ r. ⌜ r ≡ uncomplement true 8 v ⌝ }
+{
     if v < 0x8000_0000_0000_0000 {
         return v as i64;
     }

@@ -2,14 +2,14 @@ use native.Mathlib.Omega.{arith}
 use borrow.Author.Needs.{needs}
 use Rattle.answers.proofs.input.signed.Statement.{statement}
 use Rattle.answers.proofs.input.signed.Tie as tie
-use Rattle.answers.proofs.Turned.{turned}
+use Rattle.answers.proofs.Turned.{turned, low-half, high-half}
 
 pub signed-spec : {M : Type 1} → statement M
 signed-spec =
     tie.close (tie.spec
     (λ c. search needs)
-    (λ c. search needs)
+    (λ c. search (low-half, needs))
     (λ c. search needs)
     (λ c. search needs)
     (λ c. turned (c .before .args .v) (omega arith))
-    (λ c. search needs))
+    (λ c. high-half (c .before .args .v) (omega arith) (omega arith)))
