@@ -9,7 +9,7 @@ mod walk;
 
 use markup::{Cutter, Piece};
 use rules::{Bound, Bounds, Fields, Row};
-use walk::{Extent, NOTHING};
+use walk::{Stretch, NOTHING};
 
 const DEEPEST: usize = 24;
 const MOST_ELEMENTS: usize = 4096;
@@ -58,7 +58,7 @@ struct Open<'a> {
     last: u8,
     seen: u8,
     record: usize,
-    walk: Option<Extent>,
+    walk: Option<Stretch>,
 }
 
 struct Pass<'a> {
@@ -265,7 +265,7 @@ impl<'a> Pass<'a> {
                 self.leaves = Some(element.place);
             }
         } else if let Some(parent) = self.open.last_mut() {
-            parent.walk = parent.walk.and_then(|before| walk::joined(before, walk?));
+            parent.walk = parent.walk.and_then(|so_far| so_far.followed_by(walk?));
         }
     }
 }
