@@ -4,15 +4,13 @@
 ghost use Prim.Native.Nat.{_≤_, _<_};
 ghost use lib.ListN.{length};
 
-mod hash;
-mod input;
 mod leaves;
 mod out;
 mod plans;
 mod tables;
 
-use input::Byte;
-use input::Field;
+use frames::input::Byte;
+use frames::input::Field;
 
 // The place in the output behind a frame's line, and whether another frame may follow.
 struct Step {
@@ -66,7 +64,7 @@ fn piece(s: &[u8], out: &mut [u8], at: usize) -> Step
     requires { ⌜ (at ≤ length (now out)) × (64 ≤ length (now out)) ⌝ }
     ensures { λ r. ⌜ r .at ≤ length (now (out .entry)) ⌝ }
 {
-    let Field::Is(place) = input::read_number() else {
+    let Field::Is(place) = frames::input::read_number() else {
         return bad(out, at);
     };
     if place < s.len() as u64 {
@@ -81,14 +79,14 @@ fn frame(first: u8, text: &mut [u8], out: &mut [u8], at: usize) -> Step
     requires { ⌜ (at ≤ length (now out)) × (64 ≤ length (now out)) ⌝ }
     ensures { λ r. ⌜ r .at ≤ length (now (out .entry)) ⌝ }
 {
-    let Field::Is(n) = input::read_length(70000) else {
+    let Field::Is(n) = frames::input::read_length(70000) else {
         return bad(out, at);
     };
     if (text.len() as u64) < n {
         return bad(out, at);
     }
     let size = n as usize;
-    if !input::read_bytes(&mut text[0..size]) {
+    if !frames::input::read_bytes(&mut text[0..size]) {
         return bad(out, at);
     }
     if first == b'C' {
@@ -103,17 +101,17 @@ fn located(table: &mut [i64], text: &mut [u8], out: &mut [u8], at: usize) -> Ste
     requires { ⌜ (at ≤ length (now out)) × (64 ≤ length (now out)) ⌝ }
     ensures { λ r. ⌜ r .at ≤ length (now (out .entry)) ⌝ }
 {
-    let Field::Is(count) = input::read_length(40000) else {
+    let Field::Is(count) = frames::input::read_length(40000) else {
         return bad(out, at);
     };
     if (table.len() as u64) < count {
         return bad(out, at);
     }
     let numbers = count as usize;
-    if !input::read_table(&mut table[0..numbers], text) {
+    if !frames::input::read_table(&mut table[0..numbers], text) {
         return bad(out, at);
     }
-    let Field::Is(n) = input::read_number() else {
+    let Field::Is(n) = frames::input::read_number() else {
         return bad(out, at);
     };
     let to = tables::located(&table[0..numbers], n, out, at);
@@ -125,21 +123,21 @@ fn planned(text: &mut [u8], table: &mut [i64], out: &mut [u8], at: usize) -> Ste
     requires { ⌜ (at ≤ length (now out)) × (64 ≤ length (now out)) ⌝ }
     ensures { λ r. ⌜ r .at ≤ length (now (out .entry)) ⌝ }
 {
-    let Field::Is(numbers) = input::read_number() else {
+    let Field::Is(numbers) = frames::input::read_number() else {
         return bad(out, at);
     };
     if (table.len() as u64) < numbers {
         return bad(out, at);
     }
     let room = numbers as usize;
-    let Field::Is(n) = input::read_length(70000) else {
+    let Field::Is(n) = frames::input::read_length(70000) else {
         return bad(out, at);
     };
     if (text.len() as u64) < n {
         return bad(out, at);
     }
     let size = n as usize;
-    if !input::read_bytes(&mut text[0..size]) {
+    if !frames::input::read_bytes(&mut text[0..size]) {
         return bad(out, at);
     }
     let to = plans::planned(&text[0..size], &mut table[0..room], out, at);
@@ -155,7 +153,7 @@ fn run(text: &mut [u8], table: &mut [i64], out: &mut [u8]) -> usize
     let mut left: u64 = 0xFFFF_FFFF_FFFF_FFFF;
     while 0 < left {
         left = left - 1;
-        let Byte::Is(first) = input::read_byte() else {
+        let Byte::Is(first) = frames::input::read_byte() else {
             return at;
         };
         let step = next(first, text, table, out, at);

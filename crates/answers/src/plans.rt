@@ -2,11 +2,11 @@
 
 ghost use Prim.Native.Nat.{_≤_, _<_};
 ghost use lib.ListN.{length};
-use crate::hash::hash;
-use crate::input::signed;
 use crate::out::put_all;
 use crate::out::put_hex;
 use crate::out::put_next;
+use frames::hash::hash;
+use frames::input::signed;
 use plan::Planned;
 use plan::plan;
 

@@ -1,8 +1,8 @@
 use borrow.Author.Needs.{needs}
 use borrow.Author.Tests.{le-leb}
-use Rattle.answers.specs.Limits.{keeps}
-use Rattle.answers.proofs.input.read_length.Statement.{statement}
-use Rattle.answers.proofs.input.read_length.Tie as tie
+use Rattle.frames.specs.Limits.{keeps}
+use Rattle.frames.proofs.input.read_length.Statement.{statement}
+use Rattle.frames.proofs.input.read_length.Tie as tie
 
 pub read-length-spec : {M : Type 1} → statement M
 unfolding keeps

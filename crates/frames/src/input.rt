@@ -5,7 +5,7 @@ ghost use mathlib.Core.Bool.{true};
 ghost use Prim.Native.Nat.{_+_, _*_, _≤_, _<_, _^_};
 ghost use lib.ListN.{length};
 ghost use Rattle.cdi.specs.Values.{uncomplement};
-ghost use Rattle.answers.specs.Limits.{keeps};
+ghost use Rattle.frames.specs.Limits.{keeps};
 
 // A number that was read, or the input ended in it or it is beyond its limit.
 pub enum Field {

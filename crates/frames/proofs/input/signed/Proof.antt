@@ -1,8 +1,8 @@
 use native.Mathlib.Omega.{arith}
 use borrow.Author.Needs.{needs}
-use Rattle.answers.proofs.input.signed.Statement.{statement}
-use Rattle.answers.proofs.input.signed.Tie as tie
-use Rattle.answers.proofs.Turned.{turned, low-half, high-half}
+use Rattle.frames.proofs.input.signed.Statement.{statement}
+use Rattle.frames.proofs.input.signed.Tie as tie
+use Rattle.frames.proofs.Turned.{turned, low-half, high-half}
 
 pub signed-spec : {M : Type 1} → statement M
 signed-spec =

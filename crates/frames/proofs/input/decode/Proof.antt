@@ -2,8 +2,8 @@ use mathlib.Core.Path.{_≡_}
 use Prim.Native.Nat.{_-_}
 use lib.ListN.{length}
 use borrow.Author.Needs.{needs}
-use Rattle.answers.proofs.input.decode.Statement.{statement}
-use Rattle.answers.proofs.input.decode.Tie as tie
+use Rattle.frames.proofs.input.decode.Statement.{statement}
+use Rattle.frames.proofs.input.decode.Tie as tie
 
 abbrev Inv-loop : tie.InvT-loop
 Inv-loop block part₀ i₀ part i = length part ≡ length part₀

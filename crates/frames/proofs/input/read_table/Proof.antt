@@ -2,8 +2,8 @@ use mathlib.Core.Path.{_≡_}
 use Prim.Native.Nat.{_-_, _≤_}
 use lib.ListN.{length}
 use borrow.Author.Needs.{needs}
-use Rattle.answers.proofs.input.read_table.Statement.{statement}
-use Rattle.answers.proofs.input.read_table.Tie as tie
+use Rattle.frames.proofs.input.read_table.Statement.{statement}
+use Rattle.frames.proofs.input.read_table.Tie as tie
 
 abbrev Inv-loop : tie.InvT-loop
 Inv-loop part₀ block₀ i₀ part block i = (i ≤ length part) × (length part ≡ length part₀) × (length block ≡ length block₀) × Unit {0}

@@ -1,2 +1,0 @@
--- What the program's arithmetic needs.
-pub mod Turned

@@ -1,2 +1,0 @@
--- What the fields of a frame may be.
-pub mod Limits

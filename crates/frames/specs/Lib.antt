@@ -1,0 +1,3 @@
+-- What the fields of a frame may be, and the hash.
+pub mod Limits
+pub mod Hash

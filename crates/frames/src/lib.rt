@@ -1,0 +1,4 @@
+// The parts of a frame: its fields, read from standard input, and the hash of a table.
+
+pub mod hash;
+pub mod input;
