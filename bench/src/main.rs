@@ -4,6 +4,8 @@ mod answers;
 mod plain;
 mod planner;
 mod planning;
+mod print;
+mod printing;
 mod stack;
 mod texts;
 
@@ -129,7 +131,7 @@ fn tell(what: &str, each: usize, (proved, plain): (f64, f64)) {
 }
 
 fn main() {
-    if planning::asked() {
+    if planning::asked() || print::asked() {
         return;
     }
     let wide = || (0..40).map(|k| Item::Int(k % 3, [1, 2, 4, 8][k as usize % 4])).collect::<Vec<_>>();
