@@ -1,7 +1,8 @@
 use mathlib.Core.Path.{_≡_}
 use Prim.Native.Nat.{_-_, _*_, _≤_}
 use lib.ListN.{length}
-use Rattle.lines.proofs.Listing.{lining, Lined}
+use borrow.Author.Needs.{needs}
+use Rattle.lines.proofs.Listing.{lining, lined-next, Lined}
 use Rattle.lines.proofs.put_lines.Statement.{statement}
 use Rattle.lines.proofs.put_lines.Tie as tie
 
@@ -34,6 +35,9 @@ put-lines-spec =
     (λ c κs. search lining)
     (λ c. search lining)
     (λ c. search lining)
-    (λ c. search lining)
+    (λ c.
+    let line = c .before .before in
+    let loop = line .before .before .before .before .before .before .before .loop in
+    (search needs, search needs, search needs, lined-next (loop .inv .3) (search needs) _ _ (line .put-line .ensures .0)))
     (λ c. search lining)
     (λ c. search lining))
