@@ -4,3 +4,5 @@ pub mod Deciding
 pub mod Storing
 pub mod Fetching
 pub mod Accessing
+pub mod Once
+pub mod Promises
