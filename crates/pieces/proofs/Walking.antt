@@ -1,7 +1,7 @@
 -- The attributes of a tag, one after another: one step, shared by every loop over them.
 use mathlib.Core.Path.{_≡_, refl, sym, ap, _∙_}
 use mathlib.Core.List.{List, [], _∷_}
-use mathlib.Core.Bool.{Bool, true, false, cond}
+use mathlib.Core.Bool.{Bool, true, false, cond, not}
 use mathlib.Core.Option.{Option, none, some}
 use mathlib.Core.Logic.{⊎-elim}
 use Prim.Native.Nat.{ℕ, zero, suc, _+_, _-_, _≤_, _<_}
@@ -301,6 +301,13 @@ pub ruleset count-attributes = (uncounted, many, few, one-counted, less, needs)
 
 -- ── a tag without attributes ──
 
-pub bare : (s : List ℕ) (at : ℕ) {b : ℕ} {r : Bool} → b ≡ getD s at 0 → r ≡ blank b → r ≡ false → Shows true (attributes 0 (drop at s) ≡ [])
-unfolding attributes
-bare s at e f g = record { is = λ t. ⊎-elim (λ h. rw (drop-next s at h, ← e, ← f, g)) (λ h. rw (drop-of-length-le s h)) (lt-or-le at (length s)) }
+module _ (s : List ℕ) (at : ℕ) {b : ℕ} {r : Bool} (e : b ≡ getD s at 0) (f : r ≡ blank b) where
+  pub blank-there : r ≡ true → false ≡ not (blank (getD s at 0))
+  blank-there g = rw (← e, ← f, g)
+
+  pub no-blank : r ≡ false → true ≡ not (blank (getD s at 0))
+  no-blank g = rw (← e, ← f, g)
+
+  pub bare : r ≡ false → Shows true (attributes 0 (drop at s) ≡ [])
+  unfolding attributes
+  bare g = record { is = λ t. ⊎-elim (λ h. rw (drop-next s at h, ← e, ← f, g)) (λ h. rw (drop-of-length-le s h)) (lt-or-le at (length s)) }
