@@ -1,4 +1,5 @@
 -- The laws of the timed functions.
 pub mod Told
 pub mod Plans
+pub mod Readings
 pub mod Once

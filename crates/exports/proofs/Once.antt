@@ -1,4 +1,4 @@
--- One answer: any two outcomes that a function's contract allows are equal. (The table is only read.)
+-- One answer: any two outcomes that a function's contract allows are equal. (A slice that isn't lent for writing is only read.)
 use mathlib.Core.Path.{_≡_}
 use mathlib.Core.List.{List}
 use Prim.Native.Nat.{ℕ}
@@ -7,11 +7,15 @@ use lib.IntN.{ℤ}
 use Rattle.cdi.specs.Walk.{walk}
 use Rattle.cdi.specs.Plans.{segmentsOf, variableOf, locating}
 use Rattle.cdi.specs.Planning.{planned, tableAfter}
+use Rattle.cdi.specs.Access.{Window, Value, written, windowAfter, read}
 use Rattle.locate.proofs.Once.{once}
 use Rattle.listing.specs.Batch.{batch, listed}
 use Rattle.listing.proofs.Once.{list-once}
+use Rattle.access.specs.Told.{knownOf}
 use Rattle.exports.specs.Addresses.{addressIn}
-use Rattle.exports.specs.Plannings.{numberIn, firstIn, variablesIn}
+use Rattle.exports.specs.Refusals.{numberIn}
+use Rattle.exports.specs.Plannings.{firstIn, variablesIn}
+use Rattle.exports.specs.Accesses.{endKnown, magnitudeIn}
 
 pub timed-locate-once : (t : List ℤ) (n r s : ℕ) → r ≡ addressIn (locating t n) → s ≡ addressIn (locating t n) → r ≡ s
 timed-locate-once t n r s p q = once p q
@@ -30,3 +34,21 @@ pub timed-plan-once : (b : List ℕ) (t : List ℤ) (r s f g v w : ℕ) (p q : L
     → s ≡ numberIn (planned b t) → g ≡ firstIn (planned b t) → w ≡ variablesIn (planned b t) → q ≡ tableAfter b t
     → (r ≡ s) × (f ≡ g) × (v ≡ w) × (p ≡ q)
 timed-plan-once b t r s f g v w p q a c d e i j k l = (once a i, once c j, once d k, once e l)
+
+module _ (b : List ℕ) (t : List ℤ) where
+  pub timed-check-once : (r s : ℕ) → r ≡ endKnown (knownOf b t) → s ≡ endKnown (knownOf b t) → r ≡ s
+  timed-check-once r s p q = once p q
+
+  -- of `timed_write` and of `timed_write_known`
+  pub timed-write-once : (n : ℕ) (w : Window) (v : Value) (r s : ℕ) (p q : List ℕ)
+      → r ≡ numberIn (written b t n w v) → p ≡ windowAfter b t n w v
+      → s ≡ numberIn (written b t n w v) → q ≡ windowAfter b t n w v
+      → (r ≡ s) × (p ≡ q)
+  timed-write-once n w v r s p q a c d e = (once a d, once c e)
+
+  -- of `timed_read` and of `timed_read_known`
+  pub timed-read-once : (n : ℕ) (w : Window) (r s m o : ℕ)
+      → r ≡ numberIn (read b t n w) → m ≡ magnitudeIn (read b t n w)
+      → s ≡ numberIn (read b t n w) → o ≡ magnitudeIn (read b t n w)
+      → (r ≡ s) × (m ≡ o)
+  timed-read-once n w r s m o a c d e = (once a d, once c e)

@@ -6,7 +6,8 @@ use Rattle.cdi.specs.Faults.{Answer}
 use Rattle.cdi.specs.Planning.{Counts}
 use Rattle.plan.specs.Outlines.{answerOf}
 use Rattle.plan.specs.declared.Planned.{Planned}
-use Rattle.exports.specs.Plannings.{numberIn, firstIn, variablesIn}
+use Rattle.exports.specs.Refusals.{numberIn}
+use Rattle.exports.specs.Plannings.{firstIn, variablesIn}
 
 module _ (r : Planned) {x : ℕ} {a : Answer Counts} where
   pub told-number : x ≡ numberIn (answerOf r) → answerOf r ≡ a → x ≡ numberIn a

@@ -1,3 +1,5 @@
 -- What the timed functions give.
 pub mod Addresses
+pub mod Refusals
 pub mod Plannings
+pub mod Accesses

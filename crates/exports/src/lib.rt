@@ -1,4 +1,4 @@
-// The locator, listing and planner under C names, so that bench/ can time them. No part of the library.
+// The locator, listing, planner, writing and reading under C names, so that bench/ can time them. No part of the library.
 
 ghost use mathlib.Core.Path.{_≡_};
 ghost use mathlib.Core.Bool.{true};
@@ -9,6 +9,7 @@ ghost use Rattle.locate.specs.Finding.{toldOf};
 ghost use Rattle.listing.specs.Batch.{batch, listed};
 ghost use Rattle.exports.specs.Addresses.{addressIn};
 
+pub mod accessing; // writing and reading
 pub mod planning; // the planner
 
 use locate::Located;

@@ -3,7 +3,8 @@
 ghost use mathlib.Core.Path.{_≡_};
 ghost use Rattle.cdi.specs.Planning.{planned, tableAfter};
 ghost use Rattle.plan.specs.Outlines.{answerOf};
-ghost use Rattle.exports.specs.Plannings.{numberIn, firstIn, variablesIn};
+ghost use Rattle.exports.specs.Refusals.{numberIn};
+ghost use Rattle.exports.specs.Plannings.{firstIn, variablesIn};
 use plan::Planned;
 
 // The number of a refusal, or 0.

@@ -1,0 +1,19 @@
+use borrow.Author.Needs.{needs}
+use Rattle.access.specs.Told.{readingOf}
+use Rattle.exports.specs.Accesses.{magnitudeIn, magnitudeOf}
+use Rattle.exports.proofs.Readings.{accessing}
+use Rattle.exports.proofs.accessing.magnitude_of.Statement.{statement}
+use Rattle.exports.proofs.accessing.magnitude_of.Tie as tie
+
+pub magnitude-of-spec : {M : Type 1} → statement M
+unfolding magnitudeIn magnitudeOf readingOf
+magnitude-of-spec =
+    tie.close (tie.spec
+    (λ c. search needs)
+    (λ c. search needs)
+    (λ c. search needs)
+    (λ c. search needs)
+    (λ c. search accessing)
+    (λ c. search accessing)
+    (λ c. search accessing)
+    (λ c. search accessing))

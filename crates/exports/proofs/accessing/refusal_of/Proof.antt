@@ -1,0 +1,14 @@
+use borrow.Author.Needs.{needs}
+use Rattle.access.specs.Told.{writtenOf}
+use Rattle.exports.specs.Refusals.{numberIn}
+use Rattle.exports.proofs.accessing.refusal_of.Statement.{statement}
+use Rattle.exports.proofs.accessing.refusal_of.Tie as tie
+
+pub refusal-of-spec : {M : Type 1} → statement M
+unfolding numberIn writtenOf
+refusal-of-spec =
+    tie.close (tie.spec
+    (λ c. search needs)
+    (λ c. search needs)
+    (λ c. search needs)
+    (λ c. search needs))
