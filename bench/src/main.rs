@@ -1,5 +1,6 @@
 //! Times the proved locator and listing beside plain Rust over the same tables, in one run, and prints ratios.
 
+mod accessing;
 mod answers;
 mod plain;
 mod planner;
@@ -131,7 +132,7 @@ fn tell(what: &str, each: usize, (proved, plain): (f64, f64)) {
 }
 
 fn main() {
-    if planning::asked() || print::asked() {
+    if planning::asked() || accessing::asked() || print::asked() {
         return;
     }
     let wide = || (0..40).map(|k| Item::Int(k % 3, [1, 2, 4, 8][k as usize % 4])).collect::<Vec<_>>();

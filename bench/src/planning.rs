@@ -21,7 +21,7 @@ pub type Answer = Result<Counts, Refusal>;
 type Planner = fn(&[u8], &mut [i64]) -> Answer;
 
 /// The proved planner.
-fn proved(text: &[u8], table: &mut [i64]) -> Answer {
+pub fn proved(text: &[u8], table: &mut [i64]) -> Answer {
     let (mut first, mut variables) = (0, 0);
     let number =
         unsafe { timed_plan(text.as_ptr(), text.len(), table.as_mut_ptr(), table.len(), &mut first, &mut variables) };
@@ -39,7 +39,7 @@ fn plain(text: &[u8], table: &mut [i64]) -> Answer {
 }
 
 /// The numbers of as many records as a text can have.
-const ROOM: usize = 8 * 4095;
+pub const ROOM: usize = 8 * 4095;
 
 /// The answer of both, which must be the same, and so must the tables.
 fn agreed(what: &str, text: &[u8]) -> Answer {
@@ -121,7 +121,7 @@ fn repeat(plan: Planner, length: usize, calls: usize) {
     println!("{} bytes, {:.1} us", text.len(), 1e6 * time(plan, &text, &mut lent(ROOM), calls));
 }
 
-fn number(word: &str) -> usize {
+pub fn number(word: &str) -> usize {
     word.parse().expect("a number")
 }
 
