@@ -3,6 +3,7 @@
 ghost use Prim.Native.Nat.{_≤_, _<_};
 ghost use lib.ListN.{length};
 use crate::out::put_all;
+use crate::out::put_either;
 use crate::out::put_next;
 use crate::out::put_number;
 use names::attribute_number;
@@ -38,17 +39,6 @@ pub fn ending(s: &[u8], out: &mut [u8], at: usize) -> usize
     }
 }
 
-// One word or the other.
-fn either(first: bool, a: &[u8], b: &[u8], out: &mut [u8], at: usize) -> usize
-    requires { ⌜ (at ≤ length (now out)) × (64 ≤ length (now out)) ⌝ }
-    ensures { λ r. ⌜ r ≤ length (now (out .entry)) ⌝ }
-{
-    if first {
-        return put_all(out, at, a);
-    }
-    put_all(out, at, b)
-}
-
 fn place(bad: Place, out: &mut [u8], at: usize) -> usize
     requires { ⌜ (at ≤ length (now out)) × (64 ≤ length (now out)) ⌝ }
     ensures { λ r. ⌜ r ≤ length (now (out .entry)) ⌝ }
@@ -69,7 +59,7 @@ pub fn characters(s: &[u8], out: &mut [u8], at: usize) -> usize
 {
     let to = put_all(out, at, b"characters ");
     let next = place(bad_character(s), out, to);
-    either(is_utf8(s), b" utf8", b" not", out, next)
+    put_either(out, next, is_utf8(s), b" utf8", b" not")
 }
 
 // `number VALUE`, `number large` or `number none`
@@ -83,7 +73,7 @@ pub fn number(s: &[u8], out: &mut [u8], at: usize) -> usize
     if n.large {
         return put_all(out, at, b"number large");
     }
-    let to = either(n.negative, b"number -", b"number ", out, at);
+    let to = put_either(out, at, n.negative, b"number -", b"number ");
     put_number(out, to, n.magnitude)
 }
 
@@ -143,8 +133,8 @@ fn start(s: &[u8], cut: Cut, out: &mut [u8], at: usize) -> usize
     let mut to = put_all(out, at, b"start");
     to = both(out, to, cut.name, cut.behind);
     to = put_next(out, to, cut.end as u64);
-    to = either(cut.short, b" short", b" open", out, to);
-    to = either(cut.refers, b" refers", b" plain", out, to);
+    to = put_either(out, to, cut.short, b" short", b" open");
+    to = put_either(out, to, cut.refers, b" refers", b" plain");
     attributes(s, cut.behind, out, to)
 }
 

@@ -4,6 +4,7 @@
 ghost use Prim.Native.Nat.{_≤_, _<_};
 ghost use lib.ListN.{length};
 
+mod accesses;
 mod leaves;
 mod out;
 mod plans;
@@ -39,7 +40,12 @@ fn is_plain(first: u8) -> bool {
     first == b'Z' || first == b'U' || first == b'N' || first == b'F' || first == b'M'
 }
 
-// The answer to such a frame.
+// Is it the first byte of a frame that writes or reads?
+fn is_access(first: u8) -> bool {
+    first == b'I' || first == b'E' || first == b'S' || first == b'G'
+}
+
+// The answer to a frame that holds bytes and nothing else.
 fn plain(first: u8, s: &[u8], out: &mut [u8], at: usize) -> usize
     requires { ⌜ (at ≤ length (now out)) × (64 ≤ length (now out)) ⌝ }
     ensures { λ r. ⌜ r ≤ length (now (out .entry)) ⌝ }
@@ -74,21 +80,16 @@ fn piece(s: &[u8], out: &mut [u8], at: usize) -> Step
     bad(out, at)
 }
 
-// The frame that begins with this byte.
+// The answer to a frame that begins with bytes.
 fn frame(first: u8, text: &mut [u8], out: &mut [u8], at: usize) -> Step
     requires { ⌜ (at ≤ length (now out)) × (64 ≤ length (now out)) ⌝ }
     ensures { λ r. ⌜ r .at ≤ length (now (out .entry)) ⌝ }
 {
-    let Field::Is(n) = frames::input::read_length(70000) else {
-        return bad(out, at);
-    };
-    if (text.len() as u64) < n {
+    let part = frames::input::read_part(text);
+    if !part.whole {
         return bad(out, at);
     }
-    let size = n as usize;
-    if !frames::input::read_bytes(&mut text[0..size]) {
-        return bad(out, at);
-    }
+    let size = part.size;
     if first == b'C' {
         return piece(&text[0..size], out, at);
     }
@@ -101,20 +102,15 @@ fn located(table: &mut [i64], text: &mut [u8], out: &mut [u8], at: usize) -> Ste
     requires { ⌜ (at ≤ length (now out)) × (64 ≤ length (now out)) ⌝ }
     ensures { λ r. ⌜ r .at ≤ length (now (out .entry)) ⌝ }
 {
-    let Field::Is(count) = frames::input::read_length(40000) else {
-        return bad(out, at);
-    };
-    if (table.len() as u64) < count {
-        return bad(out, at);
-    }
-    let numbers = count as usize;
-    if !frames::input::read_table(&mut table[0..numbers], text) {
+    let part = frames::input::read_numbers(table, text);
+    if !part.whole {
         return bad(out, at);
     }
     let Field::Is(n) = frames::input::read_number() else {
         return bad(out, at);
     };
-    let to = tables::located(&table[0..numbers], n, out, at);
+    let size = part.size;
+    let to = tables::located(&table[0..size], n, out, at);
     ended(out, to)
 }
 
@@ -130,42 +126,25 @@ fn planned(text: &mut [u8], table: &mut [i64], out: &mut [u8], at: usize) -> Ste
         return bad(out, at);
     }
     let room = numbers as usize;
-    let Field::Is(n) = frames::input::read_length(70000) else {
-        return bad(out, at);
-    };
-    if (text.len() as u64) < n {
+    let part = frames::input::read_part(text);
+    if !part.whole {
         return bad(out, at);
     }
-    let size = n as usize;
-    if !frames::input::read_bytes(&mut text[0..size]) {
-        return bad(out, at);
-    }
+    let size = part.size;
     let to = plans::planned(&text[0..size], &mut table[0..room], out, at);
     ended(out, to)
 }
 
-// Frames up to the end of the input, or to the first bad one.
-fn run(text: &mut [u8], table: &mut [i64], out: &mut [u8]) -> usize
-    requires { ⌜ 64 ≤ length (now out) ⌝ }
-    ensures { λ r. ⌜ r ≤ length (now (out .entry)) ⌝ }
-{
-    let mut at = 0;
-    let mut left: u64 = 0xFFFF_FFFF_FFFF_FFFF;
-    while 0 < left {
-        left = left - 1;
-        let Byte::Is(first) = frames::input::read_byte() else {
-            return at;
-        };
-        let step = next(first, text, table, out, at);
-        at = step.at;
-        if !step.on {
-            return at;
-        }
-    }
-    at
-}
-
-fn next(first: u8, text: &mut [u8], table: &mut [i64], out: &mut [u8], at: usize) -> Step
+// The frame that begins with this byte.
+fn next(
+    first: u8,
+    text: &mut [u8],
+    table: &mut [i64],
+    window: &mut [u8],
+    value: &mut [u8],
+    out: &mut [u8],
+    at: usize,
+) -> Step
     requires { ⌜ (at ≤ length (now out)) × (64 ≤ length (now out)) ⌝ }
     ensures { λ r. ⌜ r .at ≤ length (now (out .entry)) ⌝ }
 {
@@ -178,13 +157,46 @@ fn next(first: u8, text: &mut [u8], table: &mut [i64], out: &mut [u8], at: usize
     if first == b'P' {
         return planned(text, table, out, at);
     }
+    if is_access(first) {
+        return accesses::frame(first, text, table, window, value, out, at);
+    }
     bad(out, at)
 }
 
+// Frames up to the end of the input, or to the first bad one.
+fn run(
+    text: &mut [u8],
+    table: &mut [i64],
+    window: &mut [u8],
+    value: &mut [u8],
+    out: &mut [u8],
+) -> usize
+    requires { ⌜ 64 ≤ length (now out) ⌝ }
+    ensures { λ r. ⌜ r ≤ length (now (out .entry)) ⌝ }
+{
+    let mut at = 0;
+    let mut left: u64 = 0xFFFF_FFFF_FFFF_FFFF;
+    while 0 < left {
+        left = left - 1;
+        let Byte::Is(first) = frames::input::read_byte() else {
+            return at;
+        };
+        let step = next(first, text, table, window, value, out, at);
+        at = step.at;
+        if !step.on {
+            return at;
+        }
+    }
+    at
+}
+
+// The lengths of the buffers are the limits of the fields.
 fn main() {
     let mut text = [0u8; 70000];
     let mut table = [0i64; 40000];
+    let mut window = [0u8; 70000];
+    let mut value = [0u8; 70000];
     let mut out = [0u8; 65536];
-    let at = run(&mut text, &mut table, &mut out);
+    let at = run(&mut text, &mut table, &mut window, &mut value, &mut out);
     out::flush(&out, at);
 }

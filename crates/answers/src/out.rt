@@ -29,6 +29,17 @@ pub fn put_all(out: &mut [u8], at: usize, bytes: &[u8]) -> usize
     0
 }
 
+// One word or the other.
+pub fn put_either(out: &mut [u8], at: usize, first: bool, a: &[u8], b: &[u8]) -> usize
+    requires { ⌜ (at ≤ length (now out)) × (64 ≤ length (now out)) ⌝ }
+    ensures { λ r. ⌜ r ≤ length (now (out .entry)) ⌝ }
+{
+    if first {
+        return put_all(out, at, a);
+    }
+    put_all(out, at, b)
+}
+
 // A number in decimal.
 pub fn put_number(out: &mut [u8], at: usize, n: u64) -> usize
     requires { ⌜ (at ≤ length (now out)) × (64 ≤ length (now out)) ⌝ }
@@ -56,15 +67,51 @@ pub fn put_kind(out: &mut [u8], at: usize, kind: u64) -> usize
     lines::put_kind(out, to, kind)
 }
 
+// `refused NUMBER PLACE`
+pub fn put_refusal(out: &mut [u8], at: usize, number: usize, place: usize) -> usize
+    requires { ⌜ (at ≤ length (now out)) × (64 ≤ length (now out)) ⌝ }
+    ensures { λ r. ⌜ r ≤ length (now (out .entry)) ⌝ }
+{
+    let mut to = put_all(out, at, b"refused");
+    to = put_next(out, to, number as u64);
+    put_next(out, to, place as u64)
+}
+
+// A number in at least so many hexadecimal digits.
+fn put_digits(out: &mut [u8], at: usize, n: u64, width: usize) -> usize
+    requires { ⌜ (at ≤ length (now out)) × (64 ≤ length (now out)) ⌝ }
+    ensures { λ r. ⌜ r ≤ length (now (out .entry)) ⌝ }
+{
+    let mut digits = [0u8; 16];
+    let k = io::hex(n, width, &mut digits);
+    put_all(out, at, &digits[..k])
+}
+
 // A blank and 16 hexadecimal digits.
 pub fn put_hex(out: &mut [u8], at: usize, n: u64) -> usize
     requires { ⌜ (at ≤ length (now out)) × (64 ≤ length (now out)) ⌝ }
     ensures { λ r. ⌜ r ≤ length (now (out .entry)) ⌝ }
 {
     let to = put_all(out, at, b" ");
-    let mut digits = [0u8; 16];
-    let k = io::hex(n, 16, &mut digits);
-    put_all(out, to, &digits[..k])
+    put_digits(out, to, n, 16)
+}
+
+fn wide(b: u8) -> u64 {
+    b as u64
+}
+
+// Two hexadecimal digits for each byte.
+pub fn put_bytes(out: &mut [u8], at: usize, bytes: &[u8]) -> usize
+    requires { ⌜ (at ≤ length (now out)) × (64 ≤ length (now out)) ⌝ }
+    ensures { λ r. ⌜ r ≤ length (now (out .entry)) ⌝ }
+{
+    let mut to = at;
+    let mut i = 0;
+    while i < bytes.len() {
+        to = put_digits(out, to, wide(bytes[i]), 2);
+        i += 1;
+    }
+    to
 }
 
 // What is left in the buffer is written out.

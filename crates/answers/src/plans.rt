@@ -5,6 +5,7 @@ ghost use lib.ListN.{length};
 use crate::out::put_all;
 use crate::out::put_hex;
 use crate::out::put_next;
+use crate::out::put_refusal;
 use frames::hash::hash;
 use frames::input::signed;
 use plan::Planned;
@@ -30,11 +31,7 @@ fn told(answer: Planned, out: &mut [u8], at: usize) -> usize
             to = put_next(out, to, records as u64);
             put_next(out, to, variables)
         }
-        Planned::Refused { number, place } => {
-            let mut to = put_all(out, at, b"refused");
-            to = put_next(out, to, number as u64);
-            put_next(out, to, place as u64)
-        }
+        Planned::Refused { number, place } => put_refusal(out, at, number, place),
     }
 }
 

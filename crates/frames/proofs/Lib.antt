@@ -1,3 +1,4 @@
--- What reading a table and hashing it need.
+-- What reading fields and hashing need.
+pub mod Kept
 pub mod Turned
 pub mod Hashing

@@ -1,4 +1,4 @@
-// FNV-1a with 64 bits, over the numbers of a table.
+// FNV-1a with 64 bits, over bytes and over the numbers of a table.
 
 ghost use mathlib.Core.Path.{_≡_};
 ghost use lib.Bits.{bitXor};
@@ -55,6 +55,13 @@ fn with_number(h: u64, z: i64) -> u64
     with_bytes(h, &bytes)
 }
 
+pub fn hash_bytes(bytes: &[u8]) -> u64
+    ensures { λ r. ⌜ r ≡ hashOf (now (bytes .entry)) ⌝ }
+{
+    with_bytes(BASIS, bytes)
+}
+
+// The numbers of a table.
 pub fn hash(table: &[i64]) -> u64
     ensures { λ r. ⌜ r ≡ hashOf (tableBytes (now (table .entry))) ⌝ }
 {

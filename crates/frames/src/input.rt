@@ -18,6 +18,12 @@ pub enum Byte {
     End,
 }
 
+// How much of a buffer's front was filled, and whether all of the field was read.
+pub struct Filled {
+    pub size: usize,
+    pub whole: bool,
+}
+
 // The next byte, if there is one.
 pub fn read_byte() -> Byte {
     let mut b = [0u8; 1];
@@ -72,6 +78,22 @@ pub fn read_bytes(part: &mut [u8]) -> bool {
     n == part.len()
 }
 
+// A length that the buffer has room for, and that many bytes.
+pub fn read_part(buffer: &mut [u8]) -> Filled
+    ensures { λ r. ⌜ r .size ≤ length (now (buffer .entry)) ⌝ }
+{
+    let limit = buffer.len() as u64;
+    let Field::Is(n) = read_length(limit) else {
+        return Filled {
+            size: 0,
+            whole: false,
+        };
+    };
+    let size = n as usize;
+    let whole = read_bytes(&mut buffer[0..size]);
+    Filled { size, whole }
+}
+
 // Eight bytes of a block as a number.
 fn eight_at(b: &[u8], at: usize) -> u64
     requires { ⌜ at + 8 ≤ length (now b) ⌝ }
@@ -124,7 +146,7 @@ fn read_block(part: &mut [i64], block: &mut [u8]) -> bool {
 }
 
 // As many numbers as the part has, in blocks of 1,024.
-pub fn read_table(part: &mut [i64], block: &mut [u8]) -> bool {
+fn read_table(part: &mut [i64], block: &mut [u8]) -> bool {
     let mut i = 0;
     while i < part.len() {
         let k = least(part.len() - i, 1024);
@@ -138,4 +160,20 @@ pub fn read_table(part: &mut [i64], block: &mut [u8]) -> bool {
         i = to;
     }
     true
+}
+
+// A count that the table has room for, and that many numbers.
+pub fn read_numbers(table: &mut [i64], block: &mut [u8]) -> Filled
+    ensures { λ r. ⌜ r .size ≤ length (now (table .entry)) ⌝ }
+{
+    let limit = table.len() as u64;
+    let Field::Is(n) = read_length(limit) else {
+        return Filled {
+            size: 0,
+            whole: false,
+        };
+    };
+    let size = n as usize;
+    let whole = read_table(&mut table[0..size], block);
+    Filled { size, whole }
 }

@@ -1,4 +1,4 @@
-// The parts of a frame: its fields, read from standard input, and the hash of a table.
+// The parts of a frame: its fields, read from standard input, and the hash of bytes and of a table.
 
 pub mod hash;
 pub mod input;

@@ -1,0 +1,2 @@
+-- What the lines of readings need.
+pub mod Within
