@@ -1,14 +1,13 @@
 -- The whole answers: the check, the search and what is done with the setting.
-use mathlib.Core.Path.{_≡_, refl, sym, ap, _∙_}
+use mathlib.Core.Path.{_≡_, sym, ap, _∙_}
 use mathlib.Core.List.{List}
-use Prim.Native.Nat.{ℕ, _-_, _≤_}
+use Prim.Native.Nat.{ℕ, _-_}
 use native.Mathlib.Omega.{arith}
 use borrow.Author.Needs.{needs}
 use lib.IntN.{ℤ}
-use lib.ListN.{length, take, drop}
+use lib.ListN.{take, drop}
 use Rattle.cdi.specs.Faults.{Fault, fault, Answer, accepted, refused, _andThen_}
 use Rattle.cdi.specs.Planning.{Description, described}
-use Rattle.cdi.specs.Access as A
 use Rattle.cdi.specs.Access.{Window, Value, exact, settingIn, settingOf, firstCause, writeCauses, written, writeInto, windowAfter, readFrom, read}
 use Rattle.cdi.proofs.Quiet.{impossible}
 use Rattle.access.specs.Told.{endIn, knownOf, checkedOf, settingIs, soughtOf, Good, Fits, windowOf, writtenOf, readingOf, ReadAt, startFor}

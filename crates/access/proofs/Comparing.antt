@@ -1,6 +1,6 @@
 -- Two tables compared, and the check of a text and a table.
 use mathlib.Core.Path.{_≡_, refl, sym, ap, _∙_}
-use mathlib.Core.List.{List, [], _∷_}
+use mathlib.Core.List.{List, _∷_}
 use mathlib.Core.Bool.{Bool, true, false}
 use mathlib.Core.Option.{Option, none, some}
 use Prim.Native.Nat.{ℕ, suc, _+_, _-_, _*_, _≤_, _<_, min}
@@ -14,10 +14,10 @@ use lib.IntN.{ℤ, pos}
 use lib.ListN.{length, take, drop, getD, drop-of-length-le}
 use lib.Seq.{drop-cons}
 use Rattle.cdi.specs.Words.{given}
-use Rattle.cdi.specs.Faults.{fault, Answer, accepted, refused, _andThen_}
-use Rattle.cdi.specs.Text.{zeroFrom, endOf}
+use Rattle.cdi.specs.Faults.{fault, accepted, refused}
+use Rattle.cdi.specs.Text.{endOf}
 use Rattle.cdi.specs.Table.{sameNumber, sameTable, tableOf}
-use Rattle.cdi.specs.Planning.{Description, described}
+use Rattle.cdi.specs.Planning.{Description}
 use Rattle.cdi.specs.Access.{exact}
 use Rattle.cdi.proofs.Quiet.{impossible}
 use Rattle.cdi.proofs.PlanOf.{same-table}
@@ -27,7 +27,7 @@ use Rattle.text.specs.declared.End.{End}
 use Rattle.text.specs.declared.End.the-variants as end
 use Rattle.plan.specs.declared.Planned.{Planned}
 use Rattle.plan.specs.declared.Planned.the-variants as planned
-use Rattle.plan.specs.Outlines.{outlineOf, saidOf, Few}
+use Rattle.plan.specs.Outlines.{outlineOf, saidOf}
 use Rattle.plan.proofs.Placing.{not-described, is-described, few-told}
 use Rattle.access.specs.Told.{endIn, knownOf, checkedOf}
 use Rattle.access.specs.declared.sought.Checked.{Checked}

@@ -1,23 +1,22 @@
 -- What the bytes of a variable say.
 use mathlib.Core.Path.{_≡_, refl, sym, ap, _∙_}
-use mathlib.Core.List.{List, [], _∷_}
+use mathlib.Core.List.{List, []}
 use mathlib.Core.Bool.{Bool, true, false, cond, not}
 use Prim.Native.Nat.{ℕ, _+_, _-_, _≤_, _<_}
 use native.Mathlib.Omega.{arith}
 use borrow.Author.Needs.{needs}
-use borrow.Author.Tests.{eq-eqb, ne-eqb, eqb-true, eqb-false}
+use borrow.Author.Tests.{ne-eqb, eqb-true, eqb-false}
 use lib.Dec.{eqb}
-use lib.IntN.{ℤ, pos}
 use lib.ListN.{length, take, drop, length-take, length-drop}
 use lib.Seq.{take-take}
-use Rattle.cdi.specs.Words.{ascii, given}
-use Rattle.cdi.specs.Faults.{fault, Answer, accepted, refused, isAccepted}
+use Rattle.cdi.specs.Words.{ascii}
+use Rattle.cdi.specs.Faults.{fault, accepted, refused, isAccepted}
 use Rattle.cdi.specs.Text.{zeroFrom, isUtf8}
 use Rattle.cdi.specs.Rules.{boundOf, isSigned, boundsOf}
 use Rattle.cdi.specs.Plans.{sizeFits}
 use Rattle.cdi.specs.Values.{signed, valueOf, uncomplement}
 use Rattle.cdi.specs.Access as A
-use Rattle.cdi.specs.Access.{Window, Value, integer, event, string, isInside, firstCause, writeCauses, readCauses, startIn, ownBytes, textIn, valueIn, readFrom}
+use Rattle.cdi.specs.Access.{Window, Value, integer, string, firstCause, readCauses, startIn, ownBytes, textIn, valueIn, readFrom}
 use Rattle.cdi.proofs.Quiet.{impossible}
 use Rattle.cdi.proofs.Stages.{first-zero}
 use Rattle.cdi.proofs.Back.{Lies, lies, event-size}

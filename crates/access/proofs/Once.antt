@@ -3,17 +3,17 @@
 use mathlib.Core.Path.{_≡_, refl, sym, ap, _∙_}
 use mathlib.Core.List.{List}
 use mathlib.Core.Bool.{Bool, true, false}
-use Prim.Native.Nat.{ℕ, zero, suc, _-_, _≤_, _<_}
+use Prim.Native.Nat.{ℕ, zero, _-_, _≤_, _<_}
 use native.Mathlib.Omega.{arith}
-use lib.IntN.{ℤ, pos, natAbs}
+use lib.IntN.{ℤ}
 use lib.ListN.{length, take, drop, length-take, length-drop}
-use Rattle.cdi.specs.Faults.{Fault, fault, Answer, accepted, refused}
+use Rattle.cdi.specs.Faults.{Fault, Answer, accepted, refused}
 use Rattle.cdi.specs.Values.{signed}
 use Rattle.cdi.specs.Access as A
 use Rattle.cdi.specs.Access.{Window, Value, integer, event, string, settingOf, written, windowAfter, read}
 use Rattle.cdi.proofs.Quiet.{impossible}
-use Rattle.cdi.proofs.Signs.{up, down, up-negative, down-negative}
-use Rattle.access.specs.Told.{knownOf, checkedOf, soughtOf, windowOf, causeOf, Decides, writtenOf, readingOf, ReadAt, startFor}
+use Rattle.cdi.proofs.Signs.{up, down, down-negative}
+use Rattle.access.specs.Told.{knownOf, checkedOf, soughtOf, windowOf, writtenOf, readingOf, ReadAt, startFor}
 use Rattle.access.specs.declared.sought.Checked.{Checked}
 use Rattle.access.specs.declared.sought.Checked.the-variants as checked
 use Rattle.access.specs.declared.sought.Sought.{Sought}

@@ -1,7 +1,7 @@
 -- A variable of a text and a table that have been checked.
 use mathlib.Core.Path.{_≡_, refl, sym, ap, _∙_}
-use mathlib.Core.List.{List, []}
-use mathlib.Core.Bool.{Bool, true, false}
+use mathlib.Core.List.{List}
+use mathlib.Core.Bool.{true}
 use mathlib.Core.Option.{Option, none, some}
 use mathlib.Core.Logic.{⊎-elim}
 use Prim.Native.Nat.{ℕ, _+_, _-_, _*_, _≤_, _<_}
@@ -10,15 +10,14 @@ use borrow.Author.Needs.{needs}
 use lib.IntN.{ℤ}
 use lib.ListN.{length, take, drop, length-take}
 use Rattle.cdi.specs.Words.{given, isSome, _>>=_}
-use Rattle.cdi.specs.Faults.{fault, Answer, accepted, refused, _andThen_}
+use Rattle.cdi.specs.Faults.{fault, accepted, _andThen_}
 use Rattle.cdi.specs.Text.{zeroFrom, endOf, content}
-use Rattle.cdi.specs.Tree.{Nodes, end, top, tree}
+use Rattle.cdi.specs.Tree.{end, top, tree}
 use Rattle.cdi.specs.Rules.{natural}
 use Rattle.cdi.specs.Walk.{Found}
 use Rattle.cdi.specs.Table.{sameTable, tableOf}
-use Rattle.cdi.specs.Plans.{field, placeOf, isPlan, segmentsOf, variableOf}
+use Rattle.cdi.specs.Plans.{field, isPlan, segmentsOf, variableOf}
 use Rattle.cdi.specs.Planning.{Description, cut, described}
-use Rattle.cdi.specs.Access as A
 use Rattle.cdi.specs.Access.{contentAt, exact, settingIn, settingOf}
 use Rattle.cdi.proofs.Quiet.{impossible, through, test-passed}
 use Rattle.cdi.proofs.PlanOf.{same-table}
@@ -35,9 +34,8 @@ use Rattle.children.specs.declared.Part.{Part}
 use Rattle.children.proofs.Turning.{nothing-ahead}
 use Rattle.settings.specs.Contents.{contentIn}
 use Rattle.settings.proofs.Rereading.{content-place}
-use Rattle.access.specs.Told.{endIn, knownOf, settingIs, soughtOf, Good, Fits}
+use Rattle.access.specs.Told.{endIn, knownOf, settingIs, soughtOf, Fits}
 use Rattle.access.specs.declared.sought.Setting.{Setting}
-use Rattle.access.specs.declared.sought.Sought.{Sought}
 use Rattle.access.specs.declared.sought.Sought.the-variants.{Is, Nothing}
 
 -- ── what was checked ──

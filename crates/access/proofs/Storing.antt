@@ -1,24 +1,22 @@
 -- What a write that nothing speaks against does to the window.
 use mathlib.Core.Path.{_≡_, refl, sym, ap, _∙_}
-use mathlib.Core.List.{List, [], _∷_, _++_}
+use mathlib.Core.List.{List, _++_}
 use mathlib.Core.Bool.{Bool, true, false}
-use Prim.Native.Nat.{ℕ, zero, suc, _+_, _-_, _*_, _^_, _≤_, _<_}
+use Prim.Native.Nat.{ℕ, _+_, _-_, _*_, _^_, _≤_}
 use native.Mathlib.Omega.{arith}
 use borrow.Author.Needs.{needs}
 use borrow.Rule.Slice.PartMut.{putMid, post-is}
-use borrow.Author.Tests.{ne-eqb, eq-eqb}
-use lib.Dec.{eqb}
-use lib.IntN.{ℤ, pos, negℤ}
-use lib.ListN.{length, take, drop, replicate, length-append, length-replicate, length-take, length-drop}
-use Rattle.cdi.specs.Faults.{fault, Answer, accepted, refused, isAccepted}
+use borrow.Author.Tests.{ne-eqb}
+use lib.IntN.{pos, negℤ}
+use lib.ListN.{length, take, drop, length-append, length-replicate, length-take, length-drop}
+use Rattle.cdi.specs.Faults.{fault, accepted, refused, isAccepted}
 use Rattle.cdi.specs.Rules.{boundsOf, storable, smallest, largest}
 use Rattle.cdi.specs.Values.{signed, bytesOf, complement, padded}
-use Rattle.cdi.specs.Access as A
-use Rattle.cdi.specs.Access.{Window, Value, integer, event, string, kindOfValue, inBounds, isInside, firstCause, writeCauses, stored, overwritten, startIn, writeInto}
+use Rattle.cdi.specs.Access.{Window, kindOfValue, inBounds, firstCause, writeCauses, stored, overwritten, startIn, writeInto}
 use Rattle.cdi.proofs.Tests.{ends}
 use Rattle.cdi.proofs.Bytes.{length-bytes, eight-bits, halves}
 use Rattle.cdi.proofs.Signs.{up, down, up-negative, down-negative, le-up}
-use Rattle.cdi.proofs.Back.{Passed, passed, Lies, lies, GoodText, good-text, storable-between}
+use Rattle.cdi.proofs.Back.{Passed, passed, Lies, lies, good-text, storable-between}
 use Rattle.values.specs.Held.{wholeOf}
 use Rattle.maps.specs.Matches.{wantedOf}
 use Rattle.maps.specs.declared.Wanted.{Wanted}

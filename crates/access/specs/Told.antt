@@ -15,7 +15,6 @@ use Rattle.cdi.specs.Access as A
 use Rattle.cdi.specs.Access.{Window, Value, integer, event, string, exact, settingOf, kindOfValue, inBounds, isInside, firstCause, writeCauses, valueIn}
 use Rattle.cdi.proofs.Settings.{SettingFits}
 use Rattle.children.specs.Siblings.{Inside}
-use Rattle.maps.specs.Matches.{wantedOf}
 use Rattle.maps.specs.declared.Wanted.{Wanted}
 use Rattle.maps.specs.declared.Wanted.the-variants.{Number, Event, Text}
 use Rattle.settings.specs.Contents.{contentIn}

@@ -2,12 +2,11 @@
 // changes the bytes of its variable and no other; a refused one changes none.
 
 ghost use mathlib.Core.Path.{_≡_};
-ghost use lib.ListN.{length, take};
 ghost use Rattle.cdi.specs.Faults.{accepted};
-ghost use Rattle.cdi.specs.Access.{settingOf, written, windowAfter, read};
+ghost use Rattle.cdi.specs.Access.{written, windowAfter, read};
 ghost use Rattle.maps.specs.Matches.{wantedOf};
 ghost use Rattle.maps.specs.declared.Wanted.the-variants.{Number, Event, Text};
-ghost use Rattle.access.specs.Told.{knownOf, checkedOf, windowOf, writtenOf, noText, readingOf, ReadAt, startFor};
+ghost use Rattle.access.specs.Told.{knownOf, windowOf, writtenOf, noText, readingOf, ReadAt, startFor};
 
 pub mod causes; // which cause of a refusal speaks
 pub mod reading; // one setting's value out of a window
