@@ -1,19 +1,21 @@
 -- One answer: any two results that a contract allows are the same, and so is the window afterwards. (A setting's content is known by what it holds, not
--- by its place: see the decision on places. The functions of `causes` have equations for contracts, or records with one.)
+-- by its place: see the decision on places. `first_cause`, `is_inside` and `read_cause` have equations for contracts.)
 use mathlib.Core.Path.{_≡_, refl, sym, ap, _∙_}
 use mathlib.Core.List.{List}
-use mathlib.Core.Bool.{Bool, true, false}
+use mathlib.Core.Bool.{Bool, true, false, cond}
 use Prim.Native.Nat.{ℕ, zero, _-_, _≤_, _<_}
 use native.Mathlib.Omega.{arith}
+use borrow.Author.Tests.{eqb-true}
+use lib.Dec.{eqb}
 use lib.IntN.{ℤ}
 use lib.ListN.{length, take, drop, length-take, length-drop}
-use Rattle.cdi.specs.Faults.{Fault, Answer, accepted, refused}
+use Rattle.cdi.specs.Faults.{Fault, fault, Answer, accepted, refused}
 use Rattle.cdi.specs.Values.{signed}
 use Rattle.cdi.specs.Access as A
-use Rattle.cdi.specs.Access.{Window, Value, integer, event, string, settingOf, written, windowAfter, read}
+use Rattle.cdi.specs.Access.{Window, Value, integer, event, string, settingOf, isInside, written, windowAfter, read}
 use Rattle.cdi.proofs.Quiet.{impossible}
 use Rattle.cdi.proofs.Signs.{up, down, down-negative}
-use Rattle.access.specs.Told.{knownOf, checkedOf, soughtOf, windowOf, writtenOf, readingOf, ReadAt, startFor}
+use Rattle.access.specs.Told.{knownOf, checkedOf, soughtOf, windowOf, causeOf, Decides, writtenOf, readingOf, ReadAt, startFor}
 use Rattle.access.specs.declared.sought.Checked.{Checked}
 use Rattle.access.specs.declared.sought.Checked.the-variants as checked
 use Rattle.access.specs.declared.sought.Sought.{Sought}
@@ -48,6 +50,25 @@ module _ (b : List ℕ) (t : List ℤ) where
   pub seek-once : (n : ℕ) (c : List ℕ) (r q : Sought) → soughtOf c r ≡ settingOf b t n → soughtOf c q ≡ settingOf b t n → soughtOf c r ≡ soughtOf c q
   seek-once n c r q e f = once e f
 
+-- ── the causes ──
+
+cause-alike : (r q : ℕ) → causeOf r ≡ causeOf q → r ≡ q
+unfolding causeOf
+cause-alike r q e = by (eqb r 0) refl (eqb q 0) refl e
+  where
+    either : Bool → ℕ → Answer (Unit {0})
+    either b n = cond b (accepted tt) (refused (fault n 0))
+
+    by : (a : Bool) → eqb r 0 ≡ a → (b : Bool) → eqb q 0 ≡ b → either a r ≡ either b q → r ≡ q
+    by true x true y z = eqb-true r 0 x ∙ sym (eqb-true q 0 y)
+    by true x false y z = impossible (cc)
+    by false x true y z = impossible (cc)
+    by false x false y z = ap (λ (f : Fault). f .number) (same-refused z)
+
+-- there is a window in which the variable lies, or doesn't, as is said
+pub write-cause-once : (s : A.Setting) (i : Bool) (v : Value) (w : Window) → i ≡ isInside w (s .variable) → (r q : ℕ) → Decides s i v r → Decides s i v q → r ≡ q
+write-cause-once s i v w e r q x y = cause-alike r q (once (x .of w e) (y .of w e))
+
 -- ── writing ──
 
 written-alike : (r q : Written) → writtenOf r ≡ writtenOf q → r ≡ q
@@ -56,6 +77,10 @@ written-alike written.Accepted written.Accepted z = refl
 written-alike written.Accepted (written.Refused n p) z = impossible (cc)
 written-alike (written.Refused n p) written.Accepted z = impossible (cc)
 written-alike (written.Refused n p) (written.Refused m o) z = ap (λ (f : Fault). written.Refused (f .number) (f .place)) (same-refused z)
+
+-- of a setting that is known
+pub store-once : (a : Answer (Unit {0})) (r q : Written) → writtenOf r ≡ a → writtenOf q ≡ a → r ≡ q
+store-once a r q e f = written-alike r q (once e f)
 
 module _ (b : List ℕ) (t : List ℤ) (n : ℕ) (w : Window) (v : Value) where
   pub write-once : (r q : Written) → writtenOf r ≡ written b t n w v → writtenOf q ≡ written b t n w v → r ≡ q
@@ -130,6 +155,10 @@ module _ (at : ℕ) (bytes : List ℕ) where
   reading-alike (reading.Refused n p) (reading.Event v g) x y z = impossible (cc)
   reading-alike (reading.Refused n p) (reading.Text i j g) x y z = impossible (cc)
   reading-alike (reading.Refused n p) (reading.Refused m o) x y z = ap (λ (f : Fault). reading.Refused (f .number) (f .place)) (same-refused z)
+
+-- of a setting that is known
+pub fetch-once : (at : ℕ) (bytes : List ℕ) (a : Answer A.Reading) (r q : Reading) → readingOf bytes r ≡ a → readingOf bytes q ≡ a → ReadAt at bytes r → ReadAt at bytes q → r ≡ q
+fetch-once at bytes a r q e f x y = reading-alike at bytes r q x y (once e f)
 
 module _ (b : List ℕ) (t : List ℤ) (n space first : ℕ) (bytes : List ℕ) where
   pub read-once : (r q : Reading) → readingOf bytes r ≡ read b t n (windowOf space first bytes) → readingOf bytes q ≡ read b t n (windowOf space first bytes)
