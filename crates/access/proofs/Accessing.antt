@@ -2,7 +2,6 @@
 use mathlib.Core.Path.{_≡_, sym, ap, _∙_}
 use mathlib.Core.List.{List}
 use Prim.Native.Nat.{ℕ, _-_}
-use native.Mathlib.Omega.{arith}
 use borrow.Author.Needs.{needs}
 use lib.IntN.{ℤ}
 use lib.ListN.{take, drop}
@@ -20,7 +19,8 @@ use Rattle.access.specs.declared.writing.Written.{Written}
 use Rattle.access.specs.declared.writing.Written.the-variants as written
 use Rattle.access.specs.declared.reading.Reading.{Reading}
 use Rattle.access.specs.declared.reading.Reading.the-variants as reading
-use Rattle.access.proofs.Seeking.{known-end}
+use Rattle.access.proofs.Seeking.{lent, known-end}
+use Rattle.access.proofs.Fetching.{refused-anywhere}
 
 -- ── a setting that is refused ──
 
@@ -68,10 +68,6 @@ module _ (b : List ℕ) (t : List ℤ) {a : Checked} (e : checkedOf a ≡ knownO
     unfolding readingOf
     check-unread space first bytes = sym (unread b t m is-refused (windowOf space first bytes))
 
-pub refused-anywhere : (at : ℕ) (bytes : List ℕ) (n p : ℕ) → ReadAt at bytes (reading.Refused n p)
-unfolding ReadAt
-refused-anywhere at bytes n p = tt
-
 pub ruleset checking-first = (checked-exact, check-unwritten, check-unchanged, check-unread, refused-anywhere, needs)
 
 -- ── the setting ──
@@ -96,28 +92,25 @@ module _ (b : List ℕ) (t : List ℤ) (n : ℕ) (e : ℕ) {a : Sought} (s : sou
 
   -- there is one
   module _ {x : Setting} (q : a ≡ Is x) where
-    lent : take (e - 0) (drop 0 b) ≡ take e b
-    lent = let l : e - 0 ≡ e = omega arith in ap (λ m. take m b) l
-
     is-setting : settingOf b t n ≡ accepted (settingIs (take e b) x)
     unfolding soughtOf
     is-setting = sym s ∙ ap (soughtOf (take e b)) q
 
     pub setting-good : Fits (take e b) a → Good (take (e - 0) (drop 0 b)) x
     unfolding Fits
-    setting-good f = rw lent (rw q at f)
+    setting-good f = rw (lent b e) (rw q at f)
 
     pub setting-written : (r : Written) (w : Window) (v : Value) → writtenOf r ≡ firstCause (writeCauses w v (settingIs (take (e - 0) (drop 0 b)) x)) → writtenOf r ≡ written b t n w v
     unfolding written
-    setting-written r w v z = (rw lent at z) ∙ sym (rw is-setting)
+    setting-written r w v z = (rw (lent b e) at z) ∙ sym (rw is-setting)
 
     pub setting-changed : {bytes′ : List ℕ} (w : Window) (v : Value) → bytes′ ≡ writeInto w v (settingIs (take (e - 0) (drop 0 b)) x) → bytes′ ≡ windowAfter b t n w v
     unfolding windowAfter
-    setting-changed w v z = (rw lent at z) ∙ sym (rw (is-setting, windowAfter))
+    setting-changed w v z = (rw (lent b e) at z) ∙ sym (rw (is-setting, windowAfter))
 
     pub setting-read : (r : Reading) (bytes : List ℕ) (w : Window) → readingOf bytes r ≡ readFrom w (settingIs (take (e - 0) (drop 0 b)) x) → readingOf bytes r ≡ read b t n w
     unfolding read
-    setting-read r bytes w z = (rw lent at z) ∙ sym (rw is-setting)
+    setting-read r bytes w z = (rw (lent b e) at z) ∙ sym (rw is-setting)
 
     pub setting-start : (r : Reading) (bytes : List ℕ) (first : ℕ) → ReadAt (x .address - first) bytes r → ReadAt (startFor b t n first) bytes r
     unfolding startFor settingIs

@@ -46,8 +46,12 @@ module _ {s : A.Setting} {i : Bool} (bytes own : List ℕ) (q : Reading) where
   unfolding asRead
   reads-not e z = record { of = λ w ei. z ∙ sym (rw e) }
 
-own-length : (from to n : ℕ) (bytes : List ℕ) → from + n ≡ to → to ≤ length bytes → length (take (to - from) (drop from bytes)) ≡ n
+pub own-length : (from to n : ℕ) (bytes : List ℕ) → from + n ≡ to → to ≤ length bytes → length (take (to - from) (drop from bytes)) ≡ n
 own-length from to n bytes e h = simp (length-take, length-drop) (omega arith)
+
+pub refused-anywhere : (at : ℕ) (bytes : List ℕ) (n p : ℕ) → ReadAt at bytes (reading.Refused n p)
+unfolding ReadAt
+refused-anywhere at bytes n p = tt
 
 module _ (c : List ℕ) (s : Setting) (i : Bool) (bytes : List ℕ) (from to : ℕ) where
   abbrev own : List ℕ
@@ -90,10 +94,6 @@ module _ (c : List ℕ) (s : Setting) (i : Bool) (bytes : List ℕ) (from to : �
   pub event-anywhere : (x : ℕ) (f : Bool) → ReadAt from bytes (reading.Event x f)
   unfolding ReadAt
   event-anywhere x f = tt
-
-  pub refused-anywhere : (n p : ℕ) → ReadAt from bytes (reading.Refused n p)
-  unfolding ReadAt
-  refused-anywhere n p = tt
 
   -- ── strings ──
 

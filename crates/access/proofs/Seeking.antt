@@ -69,6 +69,10 @@ nothing-here : (c : List ℕ) (f : ℕ) → length c ≤ f → here c f ≡ end
 unfolding tree top
 nothing-here c f h = ap top (nothing-ahead c f h)
 
+-- the part of the text that is lent on
+pub lent : (b : List ℕ) (e : ℕ) → take (e - 0) (drop 0 b) ≡ take e b
+lent b e = let l : e - 0 ≡ e = omega arith in ap (λ m. take m b) l
+
 module _ (b : List ℕ) (t : List ℤ) {e : ℕ} (h : knownOf b t ≡ accepted e) where
   abbrev c : List ℕ
   c = take e b
@@ -102,10 +106,6 @@ module _ (b : List ℕ) (t : List ℤ) {e : ℕ} (h : knownOf b t ≡ accepted e
   unfolding settingOf exact d
   setting-is n = rw (k .describes, k .same)
 
-  -- the part of the text that is lent on
-  lent : take (e - 0) (drop 0 b) ≡ c
-  lent = let l : e - 0 ≡ e = omega arith in ap (λ m. take m b) l
-
   module _ (n : ℕ) {r : Located} (f : toldOf r ≡ variableOf (segmentsOf t) n) where
     -- no such variable
     pub seek-none : r ≡ NoVariable → soughtOf c (Nothing 21) ≡ settingOf b t n
@@ -126,7 +126,7 @@ module _ (b : List ℕ) (t : List ℤ) {e : ℕ} (h : knownOf b t ≡ accepted e
 
       pub stands : {p : ℕ} → p ≡ natural (field t j 1) → isSome (contentAt p (here (take (e - 0) (drop 0 b)) 22)) ≡ true
       unfolding d
-      stands {p} l = rw (l, lent) (rw nodes-are at (variable-stands b t n d variable (k .describes) (k .table) found))
+      stands {p} l = rw (l, lent b e) (rw nodes-are at (variable-stands b t n d variable (k .describes) (k .table) found))
 
       pub stands-inside : {p : ℕ} → p ≡ natural (field t j 1) → p < length (take (e - 0) (drop 0 b))
       stands-inside l = content-place (take (e - 0) (drop 0 b)) 22 _ (stands l)
@@ -144,11 +144,11 @@ module _ (b : List ℕ) (t : List ℤ) {e : ℕ} (h : knownOf b t ≡ accepted e
 
         pub seek-is : soughtOf c (Is it) ≡ settingOf b t n
         unfolding soughtOf settingIs settingIn contentIn
-        seek-is = sym (setting-is n ∙ rw (found, nodes-are, sym (rw (lent, l) at m)))
+        seek-is = sym (setting-is n ∙ rw (found, nodes-are, sym (rw (lent b e, l) at m)))
 
         pub seek-fits : Inside (take (e - 0) (drop 0 b)) x → Fits c (Is it)
         unfolding Fits soughtOf
-        seek-fits y = record { inside = rw lent at y; fits = setting-fits b t n (settingIs c it) (sym seek-is) }
+        seek-fits y = record { inside = rw (lent b e) at y; fits = setting-fits b t n (settingIs c it) (sym seek-is) }
 
 pub nothing-fits : (c : List ℕ) (m : ℕ) → Fits c (Nothing m)
 unfolding Fits

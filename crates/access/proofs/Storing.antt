@@ -8,7 +8,7 @@ use borrow.Author.Needs.{needs}
 use borrow.Rule.Slice.PartMut.{putMid, post-is}
 use borrow.Author.Tests.{ne-eqb}
 use lib.IntN.{pos, negℤ}
-use lib.ListN.{length, take, drop, length-append, length-replicate, length-take, length-drop}
+use lib.ListN.{length, take, drop, length-append, length-replicate}
 use Rattle.cdi.specs.Faults.{fault, accepted, refused, isAccepted}
 use Rattle.cdi.specs.Rules.{boundsOf, storable, smallest, largest}
 use Rattle.cdi.specs.Values.{signed, bytesOf, complement, padded}
@@ -25,6 +25,7 @@ use Rattle.access.specs.Told.{settingIs, Good, windowOf, insideBy, cause
 use Rattle.access.specs.declared.sought.Setting.{Setting}
 use Rattle.access.specs.declared.writing.Written.the-variants as written
 use Rattle.access.proofs.Deciding.{inside-is, int-least, int-most}
+use Rattle.access.proofs.Fetching.{own-length}
 
 -- ── the bytes ──
 
@@ -138,11 +139,11 @@ module _ (c : List ℕ) {s : Setting} (g : Good c s) (space first : ℕ) (bytes 
     room-for (Event y) e = tt
     room-for Text e = let q = good-text (settingIs c s) t (rw e at (all-passed .text)) .short in omega arith
 
-    own-length : {to : ℕ} → to ≡ s .address - first + s .size → length (take (to - (s .address - first)) (drop (s .address - first) bytes)) ≡ s .size
-    own-length {to} q = simp (length-take, length-drop) (omega (arith, q, to-inside))
+    own-size : length (take (s .address - first + s .size - (s .address - first)) (drop (s .address - first) bytes)) ≡ s .size
+    own-size = own-length (s .address - first) (s .address - first + s .size) (s .size) bytes refl to-inside
 
     pub has-room : Room (length (take (s .address - first + s .size - (s .address - first)) (drop (s .address - first) bytes))) v (length t)
-    has-room = rw (own-length refl) (room-for v refl)
+    has-room = rw own-size (room-for v refl)
 
     pub is-stored : writtenOf written.Accepted ≡ firstCause (writeCauses w (wantedOf v t) (settingIs c s))
     unfolding writtenOf
@@ -153,7 +154,7 @@ module _ (c : List ℕ) {s : Setting} (g : Good c s) (space first : ℕ) (bytes 
         → putMid (s .address - first) (s .address - first + s .size - (s .address - first)) bytes p ≡ writeInto w (wantedOf v t) (settingIs c s)
     unfolding writeInto isAccepted overwritten startIn settingIs
     is-changed p q =
-        let n : p ≡ stored (s .size) (wantedOf v t) = q ∙ ap (λ k. stored k (wantedOf v t)) (own-length refl) in
+        let n : p ≡ stored (s .size) (wantedOf v t) = q ∙ ap (λ k. stored k (wantedOf v t)) own-size in
         let l : length (stored (s .size) (wantedOf v t)) ≡ s .size = stored-length (s .size) v t (room-for v refl) in
         ap (λ x. take (s .address - first) bytes ++ (p ++ x)) (post-is (s .address - first) (s .address - first + s .size) bytes (omega arith))
         ∙ ap (λ x. take (s .address - first) bytes ++ (x ++ drop (s .address - first + s .size) bytes)) n
