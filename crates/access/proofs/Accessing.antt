@@ -9,18 +9,22 @@ use Rattle.cdi.specs.Faults.{Fault, fault, Answer, accepted, refused, _andThen_
 use Rattle.cdi.specs.Planning.{Description, described}
 use Rattle.cdi.specs.Access.{Window, Value, exact, settingIn, settingOf, firstCause, writeCauses, written, writeInto, windowAfter, readFrom, read}
 use Rattle.cdi.proofs.Quiet.{impossible}
-use Rattle.access.specs.Told.{endIn, knownOf, checkedOf, settingIs, soughtOf, Good, Fits, windowOf, writtenOf, readingOf, ReadAt, startFor}
-use Rattle.access.specs.declared.sought.Checked.{Checked}
-use Rattle.access.specs.declared.sought.Checked.the-variants as checked
-use Rattle.access.specs.declared.sought.Setting.{Setting}
-use Rattle.access.specs.declared.sought.Sought.{Sought}
-use Rattle.access.specs.declared.sought.Sought.the-variants.{Is, Nothing}
-use Rattle.access.specs.declared.writing.Written.{Written}
-use Rattle.access.specs.declared.writing.Written.the-variants as written
-use Rattle.access.specs.declared.reading.Reading.{Reading}
-use Rattle.access.specs.declared.reading.Reading.the-variants as reading
-use Rattle.access.proofs.Seeking.{lent, known-end}
-use Rattle.access.proofs.Fetching.{refused-anywhere}
+use Rattle.access_sought.specs.Told.{endIn, knownOf, checkedOf, soughtOf, Fits}
+use Rattle.access_kinds.specs.Told.{settingIs, Good, windowOf}
+use Rattle.access_writing.specs.Told.{writtenOf}
+use Rattle.access_reading.specs.Told.{readingOf, ReadAt}
+use Rattle.access.specs.Told.{startFor}
+use Rattle.access_sought.specs.declared.Checked.{Checked}
+use Rattle.access_sought.specs.declared.Checked.the-variants as checked
+use Rattle.access_kinds.specs.declared.Setting.{Setting}
+use Rattle.access_sought.specs.declared.Sought.{Sought}
+use Rattle.access_sought.specs.declared.Sought.the-variants.{Is, Nothing}
+use Rattle.access_writing.specs.declared.Written.{Written}
+use Rattle.access_writing.specs.declared.Written.the-variants as written
+use Rattle.access_reading.specs.declared.Reading.{Reading}
+use Rattle.access_reading.specs.declared.Reading.the-variants as reading
+use Rattle.access_sought.proofs.Seeking.{lent, known-end}
+use Rattle.access_reading.proofs.Fetching.{refused-anywhere}
 
 -- ── a setting that is refused ──
 

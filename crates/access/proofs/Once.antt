@@ -15,14 +15,19 @@ use Rattle.cdi.specs.Access as A
 use Rattle.cdi.specs.Access.{Window, Value, integer, event, string, settingOf, isInside, written, windowAfter, read}
 use Rattle.cdi.proofs.Quiet.{impossible}
 use Rattle.cdi.proofs.Signs.{up, down, down-negative}
-use Rattle.access.specs.Told.{knownOf, checkedOf, soughtOf, windowOf, causeOf, Decides, writtenOf, readingOf, ReadAt, startFor}
-use Rattle.access.specs.declared.sought.Checked.{Checked}
-use Rattle.access.specs.declared.sought.Checked.the-variants as checked
-use Rattle.access.specs.declared.sought.Sought.{Sought}
-use Rattle.access.specs.declared.writing.Written.{Written}
-use Rattle.access.specs.declared.writing.Written.the-variants as written
-use Rattle.access.specs.declared.reading.Reading.{Reading}
-use Rattle.access.specs.declared.reading.Reading.the-variants as reading
+use Rattle.access_sought.specs.Told.{knownOf, checkedOf, soughtOf}
+use Rattle.access_kinds.specs.Told.{windowOf, Decides}
+use Rattle.access_order.specs.Told.{causeOf}
+use Rattle.access_writing.specs.Told.{writtenOf}
+use Rattle.access_reading.specs.Told.{readingOf, ReadAt}
+use Rattle.access.specs.Told.{startFor}
+use Rattle.access_sought.specs.declared.Checked.{Checked}
+use Rattle.access_sought.specs.declared.Checked.the-variants as checked
+use Rattle.access_sought.specs.declared.Sought.{Sought}
+use Rattle.access_writing.specs.declared.Written.{Written}
+use Rattle.access_writing.specs.declared.Written.the-variants as written
+use Rattle.access_reading.specs.declared.Reading.{Reading}
+use Rattle.access_reading.specs.declared.Reading.the-variants as reading
 
 module _ {A : Type 0} where
   once : {x r q : A} → r ≡ x → q ≡ x → r ≡ q

@@ -14,10 +14,12 @@ use Rattle.cdi.proofs.Zero.{NoZero, written-alike, window-alike, read-alike}
 use Rattle.cdi.proofs.Back as back
 use Rattle.cdi.proofs.Back.{SixtyFour, holding, refused-unchanged}
 use Rattle.cdi.proofs.Promises.{written-reads-back}
-use Rattle.access.specs.Told.{windowOf, writtenOf, readingOf}
-use Rattle.access.specs.declared.writing.Written.{Written}
-use Rattle.access.specs.declared.writing.Written.the-variants.{Accepted, Refused}
-use Rattle.access.specs.declared.reading.Reading.{Reading}
+use Rattle.access_kinds.specs.Told.{windowOf}
+use Rattle.access_writing.specs.Told.{writtenOf}
+use Rattle.access_reading.specs.Told.{readingOf}
+use Rattle.access_writing.specs.declared.Written.{Written}
+use Rattle.access_writing.specs.declared.Written.the-variants.{Accepted, Refused}
+use Rattle.access_reading.specs.declared.Reading.{Reading}
 use Rattle.access.proofs.Once.{write-once, window-once}
 
 module _ (b : List ℕ) (t : List ℤ) (n space first : ℕ) (bytes : List ℕ) (v : Value) where

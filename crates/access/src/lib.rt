@@ -1,27 +1,25 @@
 // Writing and reading settings: a text, the exact records planned from it, a variable's number and a window in; a refusal or the value out. A write
 // changes the bytes of its variable and no other; a refused one changes none.
 
+use access_reading::Reading;
+use access_reading::fetch;
+use access_sought::Checked;
+use access_sought::Sought;
+use access_sought::check;
+use access_sought::seek;
+use access_writing::Written;
+use access_writing::store;
+use maps::Wanted;
 ghost use mathlib.Core.Path.{_≡_};
 ghost use Rattle.cdi.specs.Faults.{accepted};
 ghost use Rattle.cdi.specs.Access.{written, windowAfter, read};
 ghost use Rattle.maps.specs.Matches.{wantedOf};
 ghost use Rattle.maps.specs.declared.Wanted.the-variants.{Number, Event, Text};
-ghost use Rattle.access.specs.Told.{knownOf, windowOf, writtenOf, noText, readingOf, ReadAt, startFor};
-
-pub mod causes; // which cause of a refusal speaks
-pub mod reading; // one setting's value out of a window
-pub mod sought; // which table and which variable
-pub mod writing; // one setting's value into a window
-
-use maps::Wanted;
-use reading::Reading;
-use reading::fetch;
-use sought::Checked;
-use sought::Sought;
-use sought::check;
-use sought::seek;
-use writing::Written;
-use writing::store;
+ghost use Rattle.access_sought.specs.Told.{knownOf};
+ghost use Rattle.access_kinds.specs.Told.{windowOf, noText};
+ghost use Rattle.access_writing.specs.Told.{writtenOf};
+ghost use Rattle.access_reading.specs.Told.{readingOf, ReadAt};
+ghost use Rattle.access.specs.Told.{startFor};
 
 // ── of a text and a table that have been checked ──
 

@@ -22,7 +22,7 @@ use Rattle.cdi.specs.Table.{sameNumber}
 use Rattle.cdi.specs.Values.{complement, padded}
 use Rattle.cdi.specs.Access.{Window, Value, integer, event, string, Setting, settingOf, kindOfValue, inBounds, isGoodText, isAdmitted, isInside, isFloat, isMappedEvent, firstCause, writeCauses, readCauses, stored, overwritten, startIn, written, writeInto, windowAfter, ownBytes, textIn, valueIn, readFrom, read}
 use Rattle.cdi.proofs.Bytes.{length-bytes, value-of-bytes, complement-fits, uncomplement-complement}
-use Rattle.cdi.proofs.Settings.{SettingFits}
+use Rattle.cdi.specs.Settings.{SettingFits}
 use Rattle.cdi.proofs.Signs.{le-trans}
 use Rattle.cdi.proofs.Tests.{parts, ends, in-range}
 use Rattle.cdi.proofs.Zero.{NoZero, zero-at}

@@ -91,3 +91,15 @@ module _ {A : Type 0} where
   pub test-passed : (t : Bool) (f : Fault) (a x : A) → cond t (accepted a) (refused f) ≡ accepted x → (t ≡ true) × (a ≡ x)
   test-passed true f a x e = (refl, (cc))
   test-passed false f a x e = ((cc), (cc))
+
+turned : (x y : List ℕ) → same x y ≡ true → same y x ≡ true
+turned x y e = rw (same-equal x y e) (same-self y)
+
+-- Two byte strings are found to be the same either way round.
+pub same-comm : (x y : List ℕ) → same x y ≡ same y x
+same-comm x y = by (same x y) (same y x) refl refl
+  where
+    by : (t u : Bool) → same x y ≡ t → same y x ≡ u → same x y ≡ same y x
+    by true u p q = rw (p, turned x y p)
+    by false true p q = rw (q, turned y x q)
+    by false false p q = rw (p, q)

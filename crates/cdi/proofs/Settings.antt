@@ -11,7 +11,7 @@ use Rattle.cdi.specs.Faults.{fault, Answer, accepted}
 use Rattle.cdi.specs.Pieces.{Attribute, Piece}
 use Rattle.cdi.specs.Tree.{Nodes, end, element, other, tree}
 use Rattle.cdi.specs.Rows.{Row, rowOf, documentRow, dataNames}
-use Rattle.cdi.specs.Rules.{Before, nothingBefore, behind, isInt, ownFaults, faultsIn, elementFaults, natural, boundsOf, storable}
+use Rattle.cdi.specs.Rules.{Before, nothingBefore, behind, isInt, ownFaults, faultsIn, elementFaults, natural}
 use Rattle.cdi.specs.Walk as W
 use Rattle.cdi.specs.Walk.{records, steps, segmentSteps, afterSegment, Found}
 use Rattle.cdi.specs.Table.{tableOf, sameTable}
@@ -30,6 +30,7 @@ use Rattle.cdi.proofs.Held.{ItemsHeld, SegmentsHeld, table-held}
 use Rattle.cdi.proofs.PlanOf.{same-table}
 use Rattle.cdi.proofs.Stages.{Stages, stages}
 use Rattle.cdi.proofs.Accepted.{text-rises}
+use Rattle.cdi.specs.Settings.{SettingFits}
 
 -- ── parts of a tree ──
 
@@ -176,13 +177,6 @@ pub variable-stands : (b : List ℕ) (t : List ℤ) (n : ℕ) (d : Description) 
     → isSome (contentAt (placeOf t (v .number)) (d .nodes)) ≡ true
 unfolding isSome
 variable-stands b t n d v e q f = rw (stand-found (VariableFits t (d .nodes)) (d .segments) n v (accepted-stand b t d e q) f .stands)
-
--- what holds of a variable's kind and size, and of an int's bounds
-pub record SettingFits (s : Setting) : Type 0 where
-  pub kinds : 3 ≤ s .variable .kind
-  pub sized : sizeFits (s .variable .kind) (pos (s .variable .size)) ≡ true
-  pub low : s .variable .kind ≡ 3 → storable (boundsOf (s .variable .size) (s .content) .signed) (s .variable .size) (boundsOf (s .variable .size) (s .content) .min) ≡ true
-  pub high : s .variable .kind ≡ 3 → storable (boundsOf (s .variable .size) (s .content) .signed) (s .variable .size) (boundsOf (s .variable .size) (s .content) .max) ≡ true
 
 setting-same : {x s : Setting} → _≡_ {A = Answer Setting} (accepted x) (accepted s) → x ≡ s
 setting-same e = cc

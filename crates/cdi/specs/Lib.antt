@@ -14,5 +14,6 @@ pub mod Plans
 pub mod Planning
 pub mod Values
 pub mod Access
+pub mod Settings
 pub mod Worked
 pub mod Slips

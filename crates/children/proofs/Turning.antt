@@ -14,13 +14,12 @@ use Rattle.cdi.specs.Tree.{Nodes, end, element, other, grow, levels, top, tree}
 use Rattle.cdi.specs.Words.{same}
 use Rattle.cdi.specs.Access.{childOf}
 use Rattle.cdi.proofs.Quiet.{impossible}
-use Rattle.pieces.specs.Cuts.{pieceOf, Stands}
-use Rattle.pieces.specs.declared.Kind.{Kind}
-use Rattle.pieces.specs.declared.Kind.the-variants.{Start, Finish, Remark, Refer, Text, Malformed, Unsupported}
-use Rattle.pieces.specs.declared.Cut.{Cut}
-use Rattle.pass.specs.Asks.{from, nameIn, attributesIn}
-use Rattle.pass.specs.Reading.{here}
-use Rattle.pass.proofs.Levels.{split, short-levels, start-levels}
+use Rattle.pieces_cuts.specs.Cuts.{pieceOf, Stands}
+use Rattle.pieces_cuts.specs.declared.Kind.{Kind}
+use Rattle.pieces_cuts.specs.declared.Kind.the-variants.{Start, Finish, Remark, Refer, Text, Malformed, Unsupported}
+use Rattle.pieces_cuts.specs.declared.Cut.{Cut}
+use Rattle.levels.specs.Ahead.{from, nameIn, attributesIn, here}
+use Rattle.levels.proofs.Levels.{split, short-levels, start-levels}
 use Rattle.children.specs.declared.Turn.{Turn}
 use Rattle.children.specs.declared.Turn.the-variants.{Opens, Closes, Stays}
 use Rattle.children.specs.declared.Child.{Child}

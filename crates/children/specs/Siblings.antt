@@ -7,12 +7,11 @@ use Prim.Native.Nat.{ℕ, _≤_, _<_}
 use lib.ListN.{length}
 use Rattle.cdi.specs.Tree.{Nodes, end, element, other, levels}
 use Rattle.cdi.specs.Access.{childOf}
-use Rattle.pieces.specs.Cuts.{Stands}
-use Rattle.pieces.specs.declared.Kind.{Kind}
-use Rattle.pieces.specs.declared.Kind.the-variants.{Start, Finish, Remark, Refer, Text, Malformed, Unsupported}
-use Rattle.pieces.specs.declared.Cut.{Cut}
-use Rattle.pass.specs.Asks.{from, nameIn, attributesIn}
-use Rattle.pass.specs.Reading.{here}
+use Rattle.pieces_cuts.specs.Cuts.{Stands}
+use Rattle.pieces_cuts.specs.declared.Kind.{Kind}
+use Rattle.pieces_cuts.specs.declared.Kind.the-variants.{Start, Finish, Remark, Refer, Text, Malformed, Unsupported}
+use Rattle.pieces_cuts.specs.declared.Cut.{Cut}
+use Rattle.levels.specs.Ahead.{from, nameIn, attributesIn, here}
 use Rattle.children.specs.declared.Turn.{Turn}
 use Rattle.children.specs.declared.Turn.the-variants.{Opens, Closes, Stays}
 use Rattle.children.specs.declared.Child.{Child}

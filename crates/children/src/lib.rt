@@ -1,18 +1,18 @@
 // The children of an element, by place: the next one, the place behind one, and the content of one by its name. A place stands for what is still to
 // come at its level, up to the end tag that closes the level.
 
+use pieces::piece_at;
+use pieces_cuts::Cut;
+use pieces_cuts::Kind;
+use scan::same;
 ghost use mathlib.Core.Path.{_≡_};
 ghost use Prim.Native.Nat.{_≤_};
 ghost use lib.ListN.{length};
-ghost use Rattle.pieces.specs.Cuts.{Stands};
-ghost use Rattle.pieces.specs.declared.Kind.the-variants.{Start};
+ghost use Rattle.pieces_cuts.specs.Cuts.{Stands};
+ghost use Rattle.pieces_cuts.specs.declared.Kind.the-variants.{Start};
 ghost use Rattle.cdi.specs.Words.{same as sameBytes};
-ghost use Rattle.pass.specs.Asks.{nameIn};
+ghost use Rattle.levels.specs.Ahead.{nameIn};
 ghost use Rattle.children.specs.Siblings.{ahead, turnOf, Behind, NextChild, Passed, partOf, Named};
-use pieces::Cut;
-use pieces::Kind;
-use pieces::piece_at;
-use scan::same;
 
 // What a piece does to the depth.
 pub enum Turn {

@@ -11,7 +11,7 @@ use Rattle.cdi.specs.Access.{Window, Value, written, windowAfter, read}
 use Rattle.locate.proofs.Once.{once}
 use Rattle.listing.specs.Batch.{batch, listed}
 use Rattle.listing.proofs.Once.{list-once}
-use Rattle.access.specs.Told.{knownOf}
+use Rattle.access_sought.specs.Told.{knownOf}
 use Rattle.exports.specs.Addresses.{addressIn}
 use Rattle.exports.specs.Refusals.{numberIn}
 use Rattle.exports.specs.Plannings.{firstIn, variablesIn}

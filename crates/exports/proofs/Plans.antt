@@ -4,8 +4,8 @@ use Prim.Native.Nat.{ℕ}
 use borrow.Author.Needs.{needs}
 use Rattle.cdi.specs.Faults.{Answer}
 use Rattle.cdi.specs.Planning.{Counts}
-use Rattle.plan.specs.Outlines.{answerOf}
-use Rattle.plan.specs.declared.Planned.{Planned}
+use Rattle.plan_stages.specs.Outlines.{answerOf}
+use Rattle.plan_stages.specs.declared.Planned.{Planned}
 use Rattle.exports.specs.Refusals.{numberIn}
 use Rattle.exports.specs.Plannings.{firstIn, variablesIn}
 

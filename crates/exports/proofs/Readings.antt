@@ -8,11 +8,13 @@ use lib.IntN.{natAbs}
 use Rattle.cdi.specs.Faults.{Answer}
 use Rattle.cdi.specs.Values.{signed}
 use Rattle.cdi.specs.Access as A
-use Rattle.access.specs.Told.{checkedOf, writtenOf, readingOf}
-use Rattle.access.specs.declared.sought.Checked.{Checked}
-use Rattle.access.specs.declared.writing.Written.{Written}
-use Rattle.access.specs.declared.reading.Reading.{Reading}
-use Rattle.access.specs.declared.reading.Reading.the-variants.{Integer, Event, Text, Refused}
+use Rattle.access_sought.specs.Told.{checkedOf}
+use Rattle.access_writing.specs.Told.{writtenOf}
+use Rattle.access_reading.specs.Told.{readingOf}
+use Rattle.access_sought.specs.declared.Checked.{Checked}
+use Rattle.access_writing.specs.declared.Written.{Written}
+use Rattle.access_reading.specs.declared.Reading.{Reading}
+use Rattle.access_reading.specs.declared.Reading.the-variants.{Integer, Event, Text, Refused}
 use Rattle.exports.specs.Refusals.{numberIn}
 use Rattle.exports.specs.Accesses.{endKnown, magnitudeOf, magnitudeIn}
 

@@ -4,7 +4,7 @@ use Prim.Native.Nat.{ℕ}
 use borrow.Author.Needs.{needs}
 use Rattle.cdi.specs.Faults.{Answer}
 use Rattle.cdi.specs.Walk.{Found}
-use Rattle.locate.specs.Finding.{toldOf}
+use Rattle.locate.specs.Answers.{toldOf}
 use Rattle.locate.specs.declared.Located.{Located}
 use Rattle.locate.specs.declared.Located.the-variants.{Variable as At}
 use Rattle.exports.specs.Addresses.{addressIn}

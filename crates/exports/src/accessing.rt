@@ -1,23 +1,26 @@
 // Writing and reading under C names. A value is an integer that isn't negative.
 
+use access::read;
+use access::read_known;
+use access::write_integer;
+use access::write_known;
+use access_reading::Reading;
+use access_sought::Checked;
+use access_sought::check;
+use access_writing::Written;
+use maps::Wanted;
 ghost use mathlib.Core.Path.{_≡_};
 ghost use mathlib.Core.Bool.{false};
 ghost use Rattle.cdi.specs.Faults.{accepted};
 ghost use Rattle.cdi.specs.Access.{written, windowAfter, read};
 ghost use Rattle.maps.specs.Matches.{wantedOf};
 ghost use Rattle.maps.specs.declared.Wanted.the-variants.{Number};
-ghost use Rattle.access.specs.Told.{knownOf, checkedOf, windowOf, writtenOf, readingOf, noText};
+ghost use Rattle.access_sought.specs.Told.{knownOf, checkedOf};
+ghost use Rattle.access_kinds.specs.Told.{windowOf, noText};
+ghost use Rattle.access_writing.specs.Told.{writtenOf};
+ghost use Rattle.access_reading.specs.Told.{readingOf};
 ghost use Rattle.exports.specs.Refusals.{numberIn};
 ghost use Rattle.exports.specs.Accesses.{endKnown, magnitudeIn};
-use access::read;
-use access::read_known;
-use access::reading::Reading;
-use access::sought::Checked;
-use access::sought::check;
-use access::write_integer;
-use access::write_known;
-use access::writing::Written;
-use maps::Wanted;
 
 // ── what is told ──
 

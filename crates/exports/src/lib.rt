@@ -1,18 +1,17 @@
 // The locator, listing, planner, writing and reading under C names, so that bench/ can time them. No part of the library.
 
+pub mod accessing; // writing and reading
+pub mod planning; // the planner
+
+use locate::Located;
 ghost use mathlib.Core.Path.{_≡_};
 ghost use mathlib.Core.Bool.{true};
 ghost use lib.ListN.{length};
 ghost use Rattle.cdi.specs.Plans.{isPlan, segmentsOf, variableOf, locating};
 ghost use Rattle.cdi.specs.Walk.{walk};
-ghost use Rattle.locate.specs.Finding.{toldOf};
+ghost use Rattle.locate.specs.Answers.{toldOf};
 ghost use Rattle.listing.specs.Batch.{batch, listed};
 ghost use Rattle.exports.specs.Addresses.{addressIn};
-
-pub mod accessing; // writing and reading
-pub mod planning; // the planner
-
-use locate::Located;
 
 // In place of an address, where there is none.
 const NONE: u64 = 18446744073709551615;

@@ -1,11 +1,11 @@
 // The planner under a C name.
 
+use plan_stages::Planned;
 ghost use mathlib.Core.Path.{_≡_};
 ghost use Rattle.cdi.specs.Planning.{planned, tableAfter};
-ghost use Rattle.plan.specs.Outlines.{answerOf};
+ghost use Rattle.plan_stages.specs.Outlines.{answerOf};
 ghost use Rattle.exports.specs.Refusals.{numberIn};
 ghost use Rattle.exports.specs.Plannings.{firstIn, variablesIn};
-use plan::Planned;
 
 // The number of a refusal, or 0.
 fn number_of(told: Planned) -> usize

@@ -5,8 +5,8 @@ use Prim.Native.Nat.{ℕ, _≤_}
 use borrow.Author.Needs.{needs}
 use borrow.Author.Tests.{leb-true}
 use Rattle.frames.specs.Limits.{keeps}
-use Rattle.frames.specs.declared.input.Field.{Field}
-use Rattle.frames.specs.declared.input.Field.the-variants.{Is}
+use Rattle.frames.specs.declared.Field.{Field}
+use Rattle.frames.specs.declared.Field.the-variants.{Is}
 
 pub kept : (limit n : ℕ) (r : Field) → keeps limit r ≡ true → r ≡ Is n → n ≤ limit
 unfolding keeps

@@ -1,4 +1,3 @@
 -- What reading fields and hashing need.
 pub mod Kept
 pub mod Turned
-pub mod Hashing

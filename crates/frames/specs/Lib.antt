@@ -1,3 +1,2 @@
 -- What the fields of a frame may be, and the hash.
 pub mod Limits
-pub mod Hash

@@ -2,8 +2,8 @@
 use mathlib.Core.Bool.{Bool, true}
 use Prim.Native.Nat.{ℕ}
 use lib.Dec.{leb}
-use Rattle.frames.specs.declared.input.Field.{Field}
-use Rattle.frames.specs.declared.input.Field.the-variants.{Is, Bad}
+use Rattle.frames.specs.declared.Field.{Field}
+use Rattle.frames.specs.declared.Field.the-variants.{Is, Bad}
 
 unfoldable pub keeps : ℕ → Field → Bool
 keeps limit (Is n) = leb n limit

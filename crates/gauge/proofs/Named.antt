@@ -18,10 +18,10 @@ use Rattle.scan.proofs.Tests.{lt-or-le, eq-or-ne}
 use Rattle.names.specs.Names.{elementNames, elementNumber}
 use Rattle.names.proofs.Positions.{element-kth}
 use Rattle.extent.specs.declared.Extent.{Extent}
-use Rattle.gauge.specs.declared.Numbers.{Numbers}
-use Rattle.gauge.specs.declared.Gauge.{Gauge}
-use Rattle.gauge.specs.Gauging.{numbersOf, isGroup, isSegment, recorded, levelIn, enterOf, ownExtent, leaveOf, kindOf, recordOf, written}
-use Rattle.gauge.specs.Numbered.{sizeBy, naturalIn, offsetIn, numbersBy, segmentAt, dataAt, groupAt, recordedBy, levelBy, enterBy, ownBy, leaveBy, kindBy, addressBy, widthBy, copiesBy, toldBy, recordBy, writtenBy}
+use Rattle.gauge_tag.specs.declared.Numbers.{Numbers}
+use Rattle.gauge_tag.specs.declared.Gauge.{Gauge}
+use Rattle.gauge_tag.specs.Gauging.{numbersOf, isGroup, isSegment, recorded, levelIn, enterOf, ownExtent, leaveOf, kindOf, recordOf, written}
+use Rattle.gauge_tag.specs.Numbered.{sizeBy, naturalIn, offsetIn, numbersBy, segmentAt, dataAt, groupAt, recordedBy, levelBy, enterBy, ownBy, leaveBy, kindBy, addressBy, widthBy, copiesBy, toldBy, recordBy, writtenBy}
 
 -- ── names ──
 

@@ -5,10 +5,10 @@ use Prim.Native.Nat.{ℕ}
 use lib.IntN.{ℤ}
 use lib.ListN.{drop}
 use Rattle.cdi.specs.Pieces.{attributes}
-use Rattle.gauge.specs.declared.Numbers.{Numbers}
-use Rattle.gauge.specs.declared.Gauge.{Gauge}
-use Rattle.gauge.specs.Gauging.{atStart}
-use Rattle.gauge.specs.Numbered.{numbersBy, enterBy, leaveBy, writtenBy}
+use Rattle.gauge_tag.specs.declared.Numbers.{Numbers}
+use Rattle.gauge_tag.specs.declared.Gauge.{Gauge}
+use Rattle.gauge_tag.specs.Gauging.{atStart}
+use Rattle.gauge_tag.specs.Numbered.{numbersBy, enterBy, leaveBy, writtenBy}
 
 pub start-once : {q r : Gauge} → q ≡ atStart → r ≡ atStart → q ≡ r
 start-once e f = e ∙ sym f

@@ -19,9 +19,9 @@ use Rattle.extent.specs.Reach.{Sound, Small, nowhere, bySize, join, repeat, hel
 use Rattle.extent.specs.declared.Extent.{Extent}
 use Rattle.extent.proofs.Joins.{offset-sound, size-sound, join-sound, repeat-sound}
 use Rattle.extent.proofs.Holding.{wide-held, plain-held}
-use Rattle.gauge.specs.declared.Numbers.{Numbers}
-use Rattle.gauge.specs.declared.Gauge.{Gauge}
-use Rattle.gauge.specs.Gauging.{numbersOf, isGroup, isSegment, recorded, enterOf, ownExtent, leaveOf, recordOf, written, gaugeNodes}
+use Rattle.gauge_tag.specs.declared.Numbers.{Numbers}
+use Rattle.gauge_tag.specs.declared.Gauge.{Gauge}
+use Rattle.gauge_tag.specs.Gauging.{numbersOf, isGroup, isSegment, recorded, enterOf, ownExtent, leaveOf, recordOf, written, gaugeNodes}
 
 -- ── extents ──
 

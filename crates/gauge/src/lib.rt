@@ -1,56 +1,26 @@
 // What is known of the walk while the elements are read: extents, records, counts. Nothing here can overflow.
 
+use extent::Extent;
+use gauge_elements::DATA;
+use gauge_elements::ROOT;
+use gauge_elements::is_data;
+use gauge_elements::is_group;
+use gauge_elements::is_recorded;
+use gauge_elements::is_segment;
+use gauge_elements::own_extent;
+use gauge_tag::Gauge;
+use gauge_tag::Leaves;
+use gauge_tag::Numbers;
 ghost use mathlib.Core.Path.{_≡_};
 ghost use mathlib.Core.Bool.{cond};
 ghost use Prim.Native.Nat.{_+_, _≤_, _<_, min};
 ghost use lib.Dec.{eqb};
 ghost use Rattle.extent.specs.Reach.{Small, join, fitsAt, held};
-ghost use Rattle.gauge.specs.Gauging.{atStart, firstLeaving};
-ghost use Rattle.gauge.specs.Numbered.{Kept, Ranged, segmentAt, dataAt, groupAt, recordedBy, levelBy, enterBy, ownBy, leaveBy};
-use extent::Extent;
+ghost use Rattle.gauge_tag.specs.Gauging.{atStart, firstLeaving};
+ghost use Rattle.gauge_tag.specs.Numbered.{Kept, Ranged, segmentAt, dataAt, recordedBy, levelBy, enterBy, ownBy, leaveBy};
 
-pub mod tag; // the numbers of a tag
-pub mod records; // the record of an element
-
-// The numbers of the names that are told apart.
-const SEGMENT: u8 = 4;
-
-const GROUP: u8 = 5;
-
-const LAST_DATA: u8 = 9;
-
-// Below the root nothing but segments is described, and in these nothing but data elements.
-const ROOT: u8 = 1;
-
-const DATA: u8 = 2;
-
+// Elsewhere nothing is described.
 const ASIDE: u8 = 3;
-
-// The first segment whose address leaves 0 to 2^32, by its place.
-pub enum Leaves {
-    Never,
-    At(usize),
-}
-
-// The numbers that a tag gives, each in its range, or what stands for one that is missing.
-pub struct Numbers {
-    pub offset: i64,
-    pub size: u64,
-    pub replication: u64,
-    pub origin: u64,
-    pub space: u64,
-}
-
-// What is known at one level: the extent of its data elements so far, and of the whole text the records, the variables of the segments that
-// have ended, at most 1,000,001, and the first segment that leaves the addresses. Level 0 is the text, 1 the root, 2 a segment or a group; in
-// anything else, 3, nothing is described.
-pub struct Gauge {
-    pub extent: Extent,
-    pub level: u8,
-    pub records: usize,
-    pub total: u64,
-    pub leaves: Leaves,
-}
 
 // What is known before the text.
 pub fn start() -> Gauge
@@ -64,49 +34,6 @@ pub fn start() -> Gauge
         total: 0,
         leaves: Leaves::Never,
     }
-}
-
-// Is it a segment, where segments stand?
-fn is_segment(level: u8, element: u8) -> bool
-    ensures { λ r. ⌜ r ≡ segmentAt level element ⌝ }
-{
-    if level == ROOT {
-        return element == SEGMENT;
-    }
-    false
-}
-
-// Is it a data element, where data elements stand?
-fn is_data(level: u8, element: u8) -> bool
-    ensures { λ r. ⌜ r ≡ dataAt level element ⌝ }
-{
-    if level == DATA {
-        if element < GROUP {
-            return false;
-        }
-        return element <= LAST_DATA;
-    }
-    false
-}
-
-// Is it a group, where data elements stand?
-fn is_group(level: u8, element: u8) -> bool
-    ensures { λ r. ⌜ r ≡ groupAt level element ⌝ }
-{
-    if level == DATA {
-        return element == GROUP;
-    }
-    false
-}
-
-// Does the element get a record?
-fn is_recorded(level: u8, element: u8) -> bool
-    ensures { λ r. ⌜ r ≡ recordedBy level element ⌝ }
-{
-    if is_segment(level, element) {
-        return true;
-    }
-    is_data(level, element)
 }
 
 // The level inside the element.
@@ -152,20 +79,6 @@ pub fn enter(g: Gauge, element: u8) -> Gauge
         total: g.total,
         leaves,
     }
-}
-
-// The extent of a data element: its offset, then its size or its copies.
-fn own_extent(element: u8, m: Numbers, inside: Extent) -> Extent
-    requires { ⌜ Small inside × (1 ≤ m .replication) × (m .replication ≤ 2147483647) ⌝ }
-    ensures { λ r. ⌜ (r ≡ ownBy element m inside) × Small r ⌝ }
-{
-    let offset = extent::moved(m.offset);
-    if element == GROUP {
-        let copies = extent::repeated(m.replication, inside);
-        return extent::joined(offset, copies);
-    }
-    let size = extent::stood(m.size);
-    extent::joined(offset, size)
 }
 
 // The extent behind the element.

@@ -8,7 +8,7 @@ use borrow.Author.Needs.{needs}
 use lib.ListN.{length, take, drop, getD}
 use lib.Seq.{getD-drop, drop-drop}
 use Rattle.cdi.specs.Walk.{Found}
-use Rattle.lines.specs.Bytes.{line, linesOf, linesIn}
+use Rattle.lines_words.specs.Bytes.{line, linesOf, linesIn}
 
 -- i of the variables have their lines, and what is left gives what the whole gives
 pub record Lined (o : List ℕ) (n : ℕ) (xs : List ℕ) (count at i : ℕ) : Type 0 where

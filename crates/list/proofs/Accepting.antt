@@ -17,9 +17,9 @@ use Rattle.cdi.proofs.Promises.{table-is-plan}
 use Rattle.cdi.proofs.PlanOf.{length-table}
 use Rattle.cdi.proofs.Quiet.{impossible}
 use borrow.Author.Needs.{needs}
-use Rattle.plan.specs.declared.Planned.{Planned}
-use Rattle.plan.specs.declared.Planned.the-variants.{Accepted, Refused}
-use Rattle.plan.specs.Outlines.{answerOf}
+use Rattle.plan_stages.specs.declared.Planned.{Planned}
+use Rattle.plan_stages.specs.declared.Planned.the-variants.{Accepted, Refused}
+use Rattle.plan_stages.specs.Outlines.{answerOf}
 
 same-records : (c c′ : Counts) → accepted c ≡ accepted c′ → c .records ≡ c′ .records
 same-records c c′ e = let y : c ≡ c′ = cc in ap (λ (x : Counts). x .records) y

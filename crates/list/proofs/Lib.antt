@@ -1,4 +1,3 @@
 -- Laws of the program.
-pub mod Batching
 pub mod Accepting
 pub mod Reading

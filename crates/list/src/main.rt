@@ -1,48 +1,24 @@
 // Lists the variables of a description that stands on standard input: their count and a line for each, or the refusal. The text is planned into
 // a table of 1,024 records, and the variables are read from that table alone, many at a time.
 
-ghost use mathlib.Core.Path.{_≡_};
-ghost use mathlib.Core.Bool.{true};
-ghost use mathlib.Core.List.{[]};
-ghost use Prim.Native.Nat.{_*_, _/_, _≤_};
-ghost use lib.ListN.{length, take};
-ghost use Rattle.cdi.specs.Walk.{walk};
-ghost use Rattle.cdi.specs.Plans.{segmentsOf, isPlan};
-ghost use Rattle.listing.specs.Batch.{batch};
-ghost use Rattle.lines.specs.Bytes.{linesOf};
-
-mod input;
+pub mod input;
 
 use input::Text;
 use input::read_text;
 use lines::put_count;
-use lines::put_lines;
 use lines::put_refusal;
-use listing::list;
-use plan::FIELDS;
-use plan::Planned;
+use list_lines::lines_from;
 use plan::plan;
+use plan_stages::Planned;
+use plan_table::FIELDS;
+ghost use mathlib.Core.Path.{_≡_};
+ghost use mathlib.Core.Bool.{true};
+ghost use Prim.Native.Nat.{_*_, _/_, _≤_};
+ghost use lib.ListN.{length};
+ghost use Rattle.cdi.specs.Plans.{isPlan};
 
 // "at most 1,000,000"
 const MOST_VARIABLES: u64 = 1000000;
-
-// So many variables, and so many bytes for their lines.
-struct Batch {
-    count: usize,
-    size: usize,
-}
-
-// The lines of the variables n, n + 1, .. of a plan, as many as there is room for.
-fn lines_from(table: &[i64], n: u64, numbers: &mut [u64], out: &mut [u8]) -> Batch
-    requires { ⌜ (isPlan (now table) ≡ true) × (length (now numbers) / 5 * 92 ≤ length (now out)) × (n ≤ 1000000) ⌝ }
-    ensures put { λ r. ⌜ take (r .size) (now (out .exit)) ≡ linesOf [] n (batch (walk (segmentsOf (now (table .entry)))) n (now (numbers .entry))) ⌝ }
-    ensures all { λ r. ⌜ r .count ≡ length (batch (walk (segmentsOf (now (table .entry)))) n (now (numbers .entry))) ⌝ }
-    ensures ends { λ r. ⌜ (r .size ≤ length (now (out .entry))) × (r .count ≤ length (now (numbers .entry))) ⌝ }
-{
-    let count = list(table, n, numbers);
-    let size = put_lines(out, n, numbers, count);
-    Batch { count, size }
-}
 
 // Writes the lines of all variables of a plan.
 fn write_lines(table: &[i64], numbers: &mut [u64], out: &mut [u8]) -> bool

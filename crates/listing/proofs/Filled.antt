@@ -15,13 +15,12 @@ use Rattle.cdi.proofs.Walked.{count-copies, change-copies, copyStart}
 use Rattle.extent.specs.Reach.{Sound, repeat}
 use Rattle.extent.specs.declared.Extent.{Extent}
 use Rattle.extent.proofs.Reached.{Fits, of-fits, extent-change}
-use Rattle.locate.specs.Judging.{itemsExtent}
-use Rattle.locate.specs.Finding.{Site, movedBy, eachOf, copyOf}
-use Rattle.locate.specs.declared.inside.Copied.{Copied}
-use Rattle.locate.proofs.Elements.{items-sound}
-use Rattle.locate.proofs.Copies.{startsAt, copy-starts}
-use Rattle.locate.proofs.Ways.{group-steps, variable-steps, Seeking, start as seeks, en, start-is, is-group, copies-fit, each-one, some, below, starts, numbers, address-high as ways-high, start-low as ways-start, start-high as ways-far, chosen as ways-chosen}
-use Rattle.locate.specs.Finding.{Chosen}
+use Rattle.locate_plan.specs.Judging.{itemsExtent}
+use Rattle.locate_ways.specs.Finding.{Site, movedBy, eachOf, copyOf, Chosen}
+use Rattle.locate_ways.specs.declared.Copied.{Copied}
+use Rattle.locate_plan.proofs.Elements.{items-sound}
+use Rattle.locate_ways.proofs.Copies.{startsAt, copy-starts}
+use Rattle.locate_ways.proofs.Ways.{group-steps, variable-steps, Seeking, start as seeks, en, start-is, is-group, copies-fit, each-one, some, below, starts, numbers, address-high as ways-high, start-low as ways-start, start-high as ways-far, chosen as ways-chosen}
 use Rattle.listing.specs.Filling.{foundAt, put, Filling, filling, one, fill, met, copiesMet, elementMet, Copying}
 use Rattle.listing.proofs.Batches.{met-append, length-met, fill-append, fill-skip}
 

@@ -16,11 +16,11 @@ use Rattle.extent.specs.Reach.{repeat, extentOf}
 use Rattle.extent.specs.declared.Extent.{Extent}
 use Rattle.extent.proofs.Joins.{extent-sound, extent-append, extent-repeat}
 use Rattle.extent.proofs.Reached.{Fits, fits-of, of-fits, past, join-first, join-second, arrives, extent-change}
-use Rattle.locate.specs.Judging.{elementExtent, goodIn, itemsExtent}
-use Rattle.locate.specs.Finding.{Site, movedBy}
-use Rattle.locate.proofs.Subtrees.{items-out, Same, same-steps, good-following}
-use Rattle.locate.proofs.Elements.{element-sound, element-extent, items-sound}
-use Rattle.locate.proofs.Ways.{Entry, entry, Seeking, start as seeks, change-is, address-high as ways-high, change-low as ways-low, change-high as ways-far}
+use Rattle.locate_plan.specs.Judging.{elementExtent, goodIn, itemsExtent}
+use Rattle.locate_ways.specs.Finding.{Site, movedBy}
+use Rattle.locate_plan.proofs.Subtrees.{items-out, Same, same-steps, good-following}
+use Rattle.locate_plan.proofs.Elements.{element-sound, element-extent, items-sound}
+use Rattle.locate_ways.proofs.Ways.{Entry, entry, Seeking, start as seeks, change-is, address-high as ways-high, change-low as ways-low, change-high as ways-far}
 use Rattle.listing.specs.Batch.{numbersOf}
 use Rattle.listing.specs.Filling.{put, Filling, filling, one, fill, met, copiesMet, elementMet, Copying}
 use Rattle.listing.proofs.Batches.{met-append, length-met, fill-append, fill-skip, fill-left, full-filled, full-out}

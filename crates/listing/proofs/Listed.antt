@@ -15,9 +15,9 @@ use Rattle.cdi.specs.Plans.{field, extraOf, nextOf, segmentFits, told, itemsIn,
 use Rattle.cdi.proofs.Tests.{parts, both-left, both-right}
 use Rattle.cdi.proofs.Signs.{same-number}
 use Rattle.extent.proofs.Joins.{repeat-once}
-use Rattle.locate.specs.Judging.{goodIn}
-use Rattle.locate.proofs.Subtrees.{records-between}
-use Rattle.locate.proofs.Tops.{Topped, topped, segments-more, segments-out, segment-keeps}
+use Rattle.locate_plan.specs.Judging.{goodIn}
+use Rattle.locate_plan.proofs.Subtrees.{records-between}
+use Rattle.locate_plan.proofs.Tops.{Topped, topped, segments-more, segments-out, segment-keeps}
 use Rattle.locate.proofs.Segments.{good-segment}
 use Rattle.listing.specs.Batch.{batch, listed}
 use Rattle.listing.specs.Filling.{Filling, filling, fill, met, copiesMet, Copying}

@@ -9,7 +9,7 @@ use lib.IntN.{ℤ, pos}
 use Rattle.cdi.specs.Walk.{Items, Found, found, Step, steps, copies, variables}
 use Rattle.cdi.specs.Plans.{nextOf, itemOf, itemsIn}
 use Rattle.extent.specs.Reach.{repeat, fitsAt}
-use Rattle.locate.specs.Judging.{goodIn, itemsExtent}
+use Rattle.locate_plan.specs.Judging.{goodIn, itemsExtent}
 use Rattle.listing.specs.Batch.{numbersOf}
 
 abbrev pub foundAt : ℕ → ℕ → ℕ → ℕ → ℕ → Found

@@ -1,6 +1,19 @@
 // The variables of a plan, many at a time, for a program that lists them all: a batch walks down to its first variable once and then
 // goes on from one to the next, copy after copy, so that skipped records are paid for once a batch.
 
+use locate_ranges::GROUP;
+use locate_rows::CHANGE;
+use locate_rows::COUNT;
+use locate_rows::EXTRA;
+use locate_rows::KIND;
+use locate_rows::NUMBERS;
+use locate_rows::REPLICATION;
+use locate_rows::START;
+use locate_rows::rise_at;
+use locate_ways::choose;
+use locate_ways::each;
+use locate_ways::moved_by;
+use locate_ways::next_record;
 ghost use mathlib.Core.Path.{_≡_};
 ghost use mathlib.Core.Bool.{true};
 ghost use Prim.Native.Nat.{_≤_, _<_, _+_, _-_, _*_, _/_};
@@ -8,22 +21,9 @@ ghost use lib.ListN.{length};
 ghost use Rattle.cdi.specs.Rules.{natural};
 ghost use Rattle.cdi.specs.Walk.{walk};
 ghost use Rattle.cdi.specs.Plans.{field, segmentsOf, isPlan};
-ghost use Rattle.locate.specs.Finding.{Site};
+ghost use Rattle.locate_ways.specs.Finding.{Site};
 ghost use Rattle.listing.specs.Batch.{batch, listed};
 ghost use Rattle.listing.specs.Filling.{foundAt, put, filling, fill, copiesMet, elementMet, Copying};
-use locate::inside::choose;
-use locate::inside::each;
-use locate::inside::moved_by;
-use locate::inside::next_record;
-use locate::ranges::GROUP;
-use locate::table::CHANGE;
-use locate::table::COUNT;
-use locate::table::EXTRA;
-use locate::table::KIND;
-use locate::table::NUMBERS;
-use locate::table::REPLICATION;
-use locate::table::START;
-use locate::table::rise_at;
 
 // A variable fills five numbers: record, space, address, size, kind.
 const EACH: usize = 5;

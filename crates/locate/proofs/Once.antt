@@ -10,7 +10,8 @@ use Rattle.cdi.specs.Faults.{Answer, Fault}
 use Rattle.cdi.specs.Faults.Answer.{accepted, refused}
 use Rattle.cdi.specs.Walk.{Found}
 use Rattle.cdi.specs.Plans.{segmentsOf, isPlan, variableOf, locating}
-use Rattle.locate.specs.Finding.{toldOf, standing, Finds}
+use Rattle.locate.specs.Answers.{toldOf}
+use Rattle.locate_ways.specs.Finding.{standing, Finds}
 use Rattle.locate.specs.declared.Located.{Located}
 use Rattle.locate.specs.declared.Located.the-variants.{Variable as At, NotAPlan, NoVariable}
 use Rattle.locate.proofs.Segments.{told-none, told-is}

@@ -18,14 +18,15 @@ use Rattle.cdi.specs.Table.{sameNumber}
 use Rattle.cdi.specs.Plans.{field, extraOf, nextOf, segmentFits, told, itemsIn, segmentOf, segmentsFrom, recordsIn, segmentsOf, segmentsGood, isPlan, variableOf, locating}
 use Rattle.cdi.proofs.Tests.{parts, both-left, both-right}
 use Rattle.cdi.proofs.Signs.{same-number}
-use Rattle.locate.specs.Judging.{goodIn}
-use Rattle.locate.specs.Finding.{toldOf, answer, insideOf, standing, Held, Finds, Site}
+use Rattle.locate_plan.specs.Judging.{goodIn}
+use Rattle.locate.specs.Answers.{toldOf, Held}
+use Rattle.locate_ways.specs.Finding.{answer, insideOf, standing, Finds, Site}
 use Rattle.locate.specs.declared.Located.{Located}
 use Rattle.locate.specs.declared.Located.the-variants.{Variable as At, NotAPlan, NoVariable}
-use Rattle.locate.proofs.Numbers.{nots}
-use Rattle.locate.proofs.Subtrees.{records-between}
-use Rattle.locate.proofs.Tops.{Topped, topped, segments-more, good-segments-more, segments-out, segment-keeps}
-use Rattle.locate.proofs.Ways.{none, seen, length-seen}
+use Rattle.locate_rows.proofs.Numbers.{nots}
+use Rattle.locate_plan.proofs.Subtrees.{records-between}
+use Rattle.locate_plan.proofs.Tops.{Topped, topped, segments-more, good-segments-more, segments-out, segment-keeps}
+use Rattle.locate_ways.proofs.Ways.{none, seen, length-seen}
 
 -- what a good segment tells
 module _ (t : List ℤ) (k i n : ℕ) (b : i < n) (h : segmentsGood t (suc k) i n ≡ true) where

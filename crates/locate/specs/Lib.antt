@@ -1,4 +1,3 @@
 -- The words of the plan test's and the locator's code.
-pub mod Judging
-pub mod Finding
+pub mod Answers
 pub mod Worked

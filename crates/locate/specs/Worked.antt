@@ -4,7 +4,7 @@ use mathlib.Core.List.{List, [], _∷_, map}
 use lib.IntN.{ℤ, pos, negsuc}
 use Rattle.cdi.specs.Plans.{locating}
 use Rattle.cdi.specs.Worked.{all-pages}
-use Rattle.locate.specs.Finding.{toldOf}
+use Rattle.locate.specs.Answers.{toldOf}
 use Rattle.locate.specs.declared.Located.the-variants.{Variable as At, NotAPlan, NoVariable}
 
 unfoldable pub T : List ℤ

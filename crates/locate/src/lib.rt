@@ -1,30 +1,23 @@
 // Which tables are plans, and where variable n of a plan lives: asked of a table alone.
 
-pub mod inside;
-mod plan;
-pub mod ranges;
-pub mod table;
-
-use inside::NOWHERE;
-use inside::RECORDS;
-use inside::find_in;
-use inside::next_record;
-use plan::segments;
-use table::COUNT;
-use table::EXTRA;
-use table::KIND;
-use table::NUMBERS;
-use table::START;
-use table::rise_at;
+use locate_plan::is_plan;
+use locate_rows::COUNT;
+use locate_rows::EXTRA;
+use locate_rows::KIND;
+use locate_rows::NUMBERS;
+use locate_rows::START;
+use locate_rows::rise_at;
+use locate_ways::NOWHERE;
+use locate_ways::RECORDS;
+use locate_ways::find_in;
+use locate_ways::next_record;
 ghost use mathlib.Core.Path.{_≡_};
 ghost use mathlib.Core.Bool.{true};
 ghost use Prim.Native.Nat.{_≤_, _+_, _*_, _%_};
 ghost use lib.ListN.{length};
 ghost use Rattle.cdi.specs.Plans.{isPlan, segmentsOf, variableOf, locating};
-ghost use Rattle.locate.specs.Finding.{toldOf, standing, Held};
-
-// "it has at most 4,095 records"
-const MOST_RECORDS: usize = 4095;
+ghost use Rattle.locate.specs.Answers.{toldOf, Held};
+ghost use Rattle.locate_ways.specs.Finding.{standing};
 
 // A variable (the number of its record, its space, address, size and kind), or the refusal: 20 for `NotAPlan`, 21 for `NoVariable`.
 pub enum Located {
@@ -37,21 +30,6 @@ pub enum Located {
     },
     NotAPlan,
     NoVariable,
-}
-
-// Whether the table is a plan. Any slice may be asked; the time is that of one pass over its records.
-pub fn is_plan(table: &[i64]) -> bool
-    ensures { λ r. ⌜ r ≡ isPlan (now (table .entry)) ⌝ }
-{
-    let numbers = table.len();
-    if numbers % NUMBERS != 0 {
-        return false;
-    }
-    let records = numbers / NUMBERS;
-    if MOST_RECORDS < records {
-        return false;
-    }
-    segments(table, records)
 }
 
 // What `find_in` found, as the answer for a segment of this space.

@@ -4,7 +4,7 @@ use mathlib.Core.List.{List, [], _∷_}
 use mathlib.Core.Bool.{Bool, true, false, cond, _&&_, _||_, Bool·beq}
 use mathlib.Core.Option.{Option, none, some}
 use mathlib.Core.Logic.{⊎-elim}
-use Prim.Native.Nat.{ℕ, zero, suc, _-_, _^_, _≤_, _<_}
+use Prim.Native.Nat.{ℕ, zero, suc, _^_, _≤_, _<_}
 use native.Mathlib.Omega.{arith}
 use borrow.Author.Needs.{needs}
 use borrow.Author.Tests.{eq-eqb, ne-eqb, lt-ltb, le-ltb}
@@ -18,17 +18,15 @@ use Rattle.cdi.specs.Rules.{ownText, ownNumber}
 use Rattle.cdi.specs.Table.{sameNumber}
 use Rattle.cdi.specs.Values.{signed}
 use Rattle.cdi.specs.Access.{childOf, decoded, properties, equals}
-use Rattle.cdi.proofs.Quiet.{impossible}
+use Rattle.cdi.proofs.Quiet.{impossible, same-comm}
 use Rattle.scan.proofs.Tests.{lt-or-le, eq-or-ne}
 use Rattle.numbers.specs.declared.Signed.{Signed}
 use Rattle.numbers.specs.declared.Number.{Number}
 use Rattle.numbers.specs.declared.Number.the-variants as number
 use Rattle.numbers.specs.Held.{held, signedOf, numberOf}
-use Rattle.rules.proofs.Kept.{same-comm}
-use Rattle.pieces.specs.declared.Cut.{Cut}
-use Rattle.pass.specs.Asks.{nameIn}
-use Rattle.pass.specs.Reading.{here}
-use Rattle.children.specs.Siblings.{ahead, contentOf, Passed, firstChild, NextChild, nodesIn, Inside, Named}
+use Rattle.pieces_cuts.specs.declared.Cut.{Cut}
+use Rattle.levels.specs.Ahead.{nameIn, here}
+use Rattle.children.specs.Siblings.{ahead, contentOf, Passed, firstChild, NextChild, nodesIn, Named}
 use Rattle.children.specs.declared.Child.{Child}
 use Rattle.children.specs.declared.Child.the-variants.{At, Nothing}
 use Rattle.children.specs.declared.Part.{Part}
@@ -37,6 +35,7 @@ use Rattle.children.proofs.Turning.{child-stands, child-start, child-deep, chil
 use Rattle.maps.specs.declared.Wanted.{Wanted}
 use Rattle.maps.specs.declared.Wanted.the-variants as wanted
 use Rattle.maps.specs.Matches.{isEqual, wantedOf, matchOf}
+use Rattle.children.proofs.Insides.{inside-high, inside-deep, part-inside}
 
 -- ── numbers ──
 
@@ -165,17 +164,6 @@ module _ (s : List ℕ) (f : Nodes → Bool) {p : Part} where
   unfolding nodesIn
   some-property e q = q ∙ sym (rw e)
 
-module _ (s : List ℕ) {p : Part} (h : Inside s p) {q : ℕ} (e : p ≡ From q) where
-  both : (q ≤ length s) × (2 ≤ length (ahead s q))
-  unfolding Inside
-  both = rw e at h
-
-  pub inside-high : q ≤ length s
-  inside-high = both .0
-
-  pub inside-deep : 2 ≤ length (ahead s q)
-  inside-deep = both .1
-
 pub ruleset property-ways = (no-property, empty-property, some-property, inside-high, inside-deep, needs)
 
 -- ── a relation ──
@@ -195,9 +183,6 @@ module _ (s : List ℕ) (f : Nodes → Bool) (c : Cut) {b : Bool} (q : b ≡ sam
   pub full-relation : {p : Part} {r : Bool} → b ≡ true → c .short ≡ false → Named s (c .end) (ascii "property") p → r ≡ given (nodesIn s p) false f → r ≡ matchOf f (nameIn s c) (contentOf s c)
   unfolding matchOf
   full-relation e k w z = z ∙ ap (λ o. given o false f) (w .is) ∙ sym (rw (sym named ∙ e, k))
-
-pub part-inside : {s : List ℕ} {at : ℕ} {n : List ℕ} {p : Part} → Named s at n p → Inside s p
-part-inside w = w .inside
 
 pub ruleset relations = (no-relation, bare-relation, full-relation, part-inside, long-deep, tag-high, needs)
 

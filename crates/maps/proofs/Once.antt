@@ -5,7 +5,7 @@ use mathlib.Core.Bool.{Bool}
 use Prim.Native.Nat.{ℕ}
 use Rattle.cdi.specs.Words.{any}
 use Rattle.cdi.specs.Access.{Value, equals, properties}
-use Rattle.pass.specs.Reading.{here}
+use Rattle.levels.specs.Ahead.{here}
 
 pub is-listed-once : (s : List ℕ) (at : ℕ) (v : Value) (r q : Bool) → r ≡ any (equals v) (properties (here s at)) → q ≡ any (equals v) (properties (here s at)) → r ≡ q
 is-listed-once s at v r q e f = e ∙ sym f

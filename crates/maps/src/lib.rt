@@ -1,18 +1,6 @@
 // A map's properties: whether one of them equals a value, an integer by number, a text by its decoded bytes. A place stands for what is still to come at
 // its level.
 
-ghost use mathlib.Core.Path.{_≡_};
-ghost use mathlib.Core.Bool.{false};
-ghost use Prim.Native.Nat.{_≤_, _<_, _^_};
-ghost use lib.ListN.{length};
-ghost use Rattle.cdi.specs.Words.{given, any};
-ghost use Rattle.cdi.specs.Access.{equals, properties};
-ghost use Rattle.pieces.specs.Cuts.{Stands};
-ghost use Rattle.pieces.specs.declared.Kind.the-variants.{Start};
-ghost use Rattle.pass.specs.Asks.{nameIn};
-ghost use Rattle.pass.specs.Reading.{here};
-ghost use Rattle.children.specs.Siblings.{ahead, contentOf, nodesIn, Inside};
-ghost use Rattle.maps.specs.Matches.{isEqual, wantedOf, matchOf, noNodes};
 use children::Child;
 use children::Part;
 use children::after;
@@ -21,9 +9,20 @@ use children::is_named;
 use children::next_child;
 use numbers::Number;
 use numbers::Signed;
-use pieces::Cut;
+use pieces_cuts::Cut;
 use words::is_decoded;
 use words::own_number;
+ghost use mathlib.Core.Path.{_≡_};
+ghost use mathlib.Core.Bool.{false};
+ghost use Prim.Native.Nat.{_≤_, _<_, _^_};
+ghost use lib.ListN.{length};
+ghost use Rattle.cdi.specs.Words.{given, any};
+ghost use Rattle.cdi.specs.Access.{equals, properties};
+ghost use Rattle.pieces_cuts.specs.Cuts.{Stands};
+ghost use Rattle.pieces_cuts.specs.declared.Kind.the-variants.{Start};
+ghost use Rattle.levels.specs.Ahead.{nameIn, here};
+ghost use Rattle.children.specs.Siblings.{ahead, contentOf, nodesIn, Inside};
+ghost use Rattle.maps.specs.Matches.{isEqual, wantedOf, matchOf, noNodes};
 
 // What a property is to equal: an integer, an event ID, which equals none, or the text that is handed in beside it.
 pub enum Wanted {

@@ -10,10 +10,10 @@ use Rattle.cdi.specs.Words.{ascii}
 use Rattle.cdi.specs.Faults.{Fault, fault, Answer, accepted, refused}
 use Rattle.cdi.specs.Worked.{all-pages}
 use Rattle.extent.specs.Reach.{reach-page}
-use Rattle.rules.specs.Judging.{asFault, judging-page}
-use Rattle.gauge.specs.Gauging.{gauging-page}
-use Rattle.pass.specs.Sums.{atFirst, sums-page}
-use Rattle.pass.specs.Folding.{Folded, folding-page}
+use Rattle.rules_judge.specs.Judging.{asFault, judging-page}
+use Rattle.gauge_tag.specs.Gauging.{gauging-page}
+use Rattle.pass_sums.specs.Sums.{atFirst, sums-page}
+use Rattle.pass_sums.specs.Folding.{Folded, folding-page}
 use Rattle.pass.specs.Answers.{readFrom, answers-page}
 
 -- read from the front, with a table of one number

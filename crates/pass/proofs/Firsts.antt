@@ -13,7 +13,7 @@ use Rattle.cdi.specs.Faults.{Fault, fault, unless, before, lesser, least}
 use Rattle.cdi.specs.Pieces.{Piece, start, finish, remark, refer, text, malformed, unsupported, blank, pieceAt, pieces}
 use Rattle.cdi.specs.Markup.{Reading, outside, refers, innermost, pieceFaults, next, markupFaults}
 use Rattle.cdi.proofs.Least.{least-append}
-use Rattle.pass.specs.Asks.{from}
+use Rattle.levels.specs.Ahead.{from}
 
 -- every fault stands at that place or behind it
 From : ℕ → List Fault → Type 0

@@ -1,9 +1,5 @@
-pub mod Levels
 pub mod Firsts
-pub mod Starts
 pub mod Steps
-pub mod Summing
-pub mod Splitting
 pub mod Outside
 pub mod One
 pub mod Cases

@@ -5,9 +5,9 @@ use Prim.Native.Nat.{ℕ}
 use lib.IntN.{ℤ}
 use Rattle.cdi.specs.Faults.{Fault, fault, Answer, accepted, refused}
 use Rattle.cdi.proofs.Quiet.{impossible}
-use Rattle.pass.specs.Folding.{Folded, folded}
+use Rattle.pass_sums.specs.Folding.{Folded, folded}
 use Rattle.pass.specs.Answers.{readFrom, answerOf}
-use Rattle.pass.specs.declared.sums.State.{State}
+use Rattle.pass_sums.specs.declared.State.{State}
 use Rattle.pass.specs.declared.Outcome.{Outcome}
 use Rattle.pass.specs.declared.Outcome.the-variants.{Read, Refused}
 

@@ -6,7 +6,7 @@ use mathlib.Core.Option.{some}
 use Prim.Native.Nat.{ℕ, suc, _+_, _-_, _≤_, _<_}
 use native.Mathlib.Omega.{arith}
 use borrow.Author.Needs.{needs}
-use borrow.Author.Tests.{lt-ltb, le-ltb, ltb-true, ltb-false}
+use borrow.Author.Tests.{lt-ltb, ltb-true, ltb-false}
 use lib.IntN.{ℤ}
 use lib.Dec.{ltb}
 use lib.ListN.{length, drop, drop-of-length-le, length-drop}
@@ -17,20 +17,21 @@ use Rattle.cdi.specs.Pieces.{Piece, text, blank, pieces}
 use Rattle.cdi.specs.Markup.{reading, outside, innermost, pieceFaults, markupFaults}
 use Rattle.cdi.specs.Tree.{levels, top, tree}
 use Rattle.cdi.proofs.Quiet.{impossible}
-use Rattle.pieces.specs.Places.{part}
-use Rattle.pieces.specs.Cuts.{pieceOf, textOf, Stands}
-use Rattle.pieces.specs.declared.Kind.{Kind}
-use Rattle.pieces.specs.declared.Kind.the-variants.{Start, Finish, Remark, Refer, Text, Malformed, Unsupported}
-use Rattle.pieces.specs.declared.Cut.{Cut}
-use Rattle.pass.specs.Sums.{Fit, recordsOf, otherOf}
-use Rattle.pass.specs.Folding.{foldNodes}
-use Rattle.pass.specs.Asks.{from, stepOf, aroundOf}
+use Rattle.pieces_cuts.specs.Places.{part}
+use Rattle.pieces_cuts.specs.Cuts.{pieceOf, textOf, Stands}
+use Rattle.pieces_cuts.specs.declared.Kind.{Kind}
+use Rattle.pieces_cuts.specs.declared.Kind.the-variants.{Start, Finish, Remark, Refer, Text, Malformed, Unsupported}
+use Rattle.pieces_cuts.specs.declared.Cut.{Cut}
+use Rattle.pass_sums.specs.Sums.{Fit, recordsOf, otherOf}
+use Rattle.pass_sums.specs.Folding.{foldNodes}
+use Rattle.levels.specs.Ahead.{from}
+use Rattle.pass_steps.specs.Asks.{stepOf, aroundOf}
 use Rattle.pass.specs.Reading.{Passed, Fails, ElementReads}
 use Rattle.pass.specs.Answers.{readFrom, answerOf, Kept}
-use Rattle.pass.specs.declared.sums.State.{State}
-use Rattle.pass.specs.declared.Step.the-variants.{Pass}
-use Rattle.pass.specs.declared.Around.{Around}
-use Rattle.pass.specs.declared.Around.the-variants.{Root, Skip, Stray}
+use Rattle.pass_sums.specs.declared.State.{State}
+use Rattle.pass_steps.specs.declared.Step.the-variants.{Pass}
+use Rattle.pass_steps.specs.declared.Around.{Around}
+use Rattle.pass_steps.specs.declared.Around.the-variants.{Root, Skip, Stray}
 use Rattle.pass.specs.declared.Reached.{Reached}
 use Rattle.pass.specs.declared.Reached.the-variants.{Failed}
 use Rattle.pass.specs.declared.Outcome.the-variants.{Read, Refused}
@@ -187,40 +188,3 @@ unfolding Kept
 refused-kept n p = tt
 
 pub ruleset around-root = (starts, stray-piece, blank-piece, root-fails, no-root, all-read, read-kept, refused-kept, on-child, less-child, is-root, is-passed, needs)
-
--- ── what a piece asks for outside the root, by its kind ──
-
-module _ {k : Kind} (at solid stop : ℕ) where
-  pub text-stray : k ≡ Text → solid < stop → Stray 6 solid ≡ aroundOf k at solid stop
-  unfolding aroundOf
-  text-stray e h = rw (e, lt-ltb solid stop h)
-
-  pub text-blank : k ≡ Text → stop ≤ solid → Skip ≡ aroundOf k at solid stop
-  unfolding aroundOf
-  text-blank e h = rw (e, le-ltb solid stop h)
-
-  pub finish-stray : k ≡ Finish → Stray 6 at ≡ aroundOf k at solid stop
-  unfolding aroundOf
-  finish-stray e = rw e
-
-  pub refer-stray : k ≡ Refer → Stray 6 at ≡ aroundOf k at solid stop
-  unfolding aroundOf
-  refer-stray e = rw e
-
-  pub malformed-stray : k ≡ Malformed → Stray 4 at ≡ aroundOf k at solid stop
-  unfolding aroundOf
-  malformed-stray e = rw e
-
-  pub unsupported-stray : k ≡ Unsupported → Stray 5 at ≡ aroundOf k at solid stop
-  unfolding aroundOf
-  unsupported-stray e = rw e
-
-  pub root-here : k ≡ Start → Root ≡ aroundOf k at solid stop
-  unfolding aroundOf
-  root-here e = rw e
-
-  pub remark-skipped : k ≡ Remark → Skip ≡ aroundOf k at solid stop
-  unfolding aroundOf
-  remark-skipped e = rw e
-
-pub ruleset around-ways = (root-here, remark-skipped, text-stray, text-blank, finish-stray, refer-stray, malformed-stray, unsupported-stray, needs)

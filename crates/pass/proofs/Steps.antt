@@ -15,27 +15,28 @@ use Rattle.cdi.specs.Markup.{Reading, reading, outside, refers, innermost, piec
 use Rattle.cdi.specs.Tree.{Nodes, end, element, other, top, levels, tree}
 use Rattle.cdi.proofs.Quiet.{impossible}
 use Rattle.scan.proofs.Tests.{via}
-use Rattle.pieces.specs.Places.{part}
-use Rattle.pieces.specs.Cuts.{pieceOf, refersOf, Stands}
-use Rattle.pieces.specs.declared.Kind.{Kind}
-use Rattle.pieces.specs.declared.Kind.the-variants.{Start, Finish, Remark, Refer, Text, Malformed, Unsupported}
-use Rattle.pieces.specs.declared.Cut.{Cut}
-use Rattle.pass.specs.Sums.{Fit, recordsOf, enterOf, otherOf, leaveOf, writtenOf}
-use Rattle.pass.specs.Folding.{Folded, folded, foldNodes}
-use Rattle.pass.specs.Asks.{from, nameIn, attributesIn, stepOf}
-use Rattle.pass.specs.Reading.{beginFault, here, Passed, Fails, ElementReads, ContentReads}
+use Rattle.pieces_cuts.specs.Places.{part}
+use Rattle.pieces_cuts.specs.Cuts.{pieceOf, refersOf, Stands}
+use Rattle.pieces_cuts.specs.declared.Kind.{Kind}
+use Rattle.pieces_cuts.specs.declared.Kind.the-variants.{Start, Finish, Remark, Refer, Text, Malformed, Unsupported}
+use Rattle.pieces_cuts.specs.declared.Cut.{Cut}
+use Rattle.pass_sums.specs.Sums.{Fit, recordsOf, enterOf, otherOf, leaveOf, writtenOf}
+use Rattle.pass_sums.specs.Folding.{Folded, folded, foldNodes}
+use Rattle.levels.specs.Ahead.{from, nameIn, attributesIn, here}
+use Rattle.pass_steps.specs.Asks.{stepOf, beginFault}
+use Rattle.pass.specs.Reading.{Passed, Fails, ElementReads, ContentReads}
 use Rattle.pass.specs.Reading.ElementReads.{done, fails}
 use Rattle.pass.specs.Reading.ContentReads.{closed, stopped}
-use Rattle.pass.specs.declared.sums.State.{State}
-use Rattle.pass.specs.declared.Step.{Step}
-use Rattle.pass.specs.declared.Step.the-variants.{Child, Close, Pass, Stop}
+use Rattle.pass_sums.specs.declared.State.{State}
+use Rattle.pass_steps.specs.declared.Step.{Step}
+use Rattle.pass_steps.specs.declared.Step.the-variants.{Child, Close, Pass, Stop}
 use Rattle.pass.specs.declared.Reached.{Reached}
 use Rattle.pass.specs.declared.Reached.the-variants.{Behind, Failed}
 use Rattle.pass.specs.declared.Inside.{Inside}
 use Rattle.pass.specs.declared.Inside.the-variants.{Closed, Stopped}
-use Rattle.pass.proofs.Levels.{remark-levels, refer-levels, text-levels, short-levels, finish-levels, start-levels}
+use Rattle.levels.proofs.Levels.{remark-levels, refer-levels, text-levels, short-levels, finish-levels, start-levels}
 use Rattle.pass.proofs.Firsts.{first-fault, no-fault}
-use Rattle.pass.proofs.Starts.{inside, start-clean, start-refused}
+use Rattle.pass_steps.proofs.Starts.{inside, start-clean, start-refused}
 
 -- ── what a piece's kind says of it ──
 

@@ -6,10 +6,10 @@ use lib.ListN.{length}
 use Rattle.cdi.specs.Faults.{fault, least, Answer, accepted, refused, stage}
 use Rattle.cdi.specs.Markup.{reading, markupFaults}
 use Rattle.cdi.specs.Tree.{tree}
-use Rattle.pass.specs.Sums.{Fit, recordsOf}
-use Rattle.pass.specs.Folding.{Folded, folded, foldNodes}
-use Rattle.pass.specs.Asks.{from}
-use Rattle.pass.specs.declared.sums.State.{State}
+use Rattle.pass_sums.specs.Sums.{Fit, recordsOf}
+use Rattle.pass_sums.specs.Folding.{Folded, folded, foldNodes}
+use Rattle.levels.specs.Ahead.{from}
+use Rattle.pass_sums.specs.declared.State.{State}
 use Rattle.pass.specs.declared.Outcome.{Outcome}
 use Rattle.pass.specs.declared.Outcome.the-variants.{Read, Refused}
 

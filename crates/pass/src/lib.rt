@@ -1,42 +1,26 @@
 // The pass: one reading of the content, element by element. Reading an element calls reading content, which calls reading an element for
 // each child, and the depth left of 24 falls. What is summed up along the way is a state and a lent table, which the leaves of `sums` move.
 
-ghost use mathlib.Core.Path.{_≡_};
-ghost use Prim.Native.Nat.{_+_, _≤_, _<_};
-ghost use lib.ListN.{length};
-ghost use Rattle.cdi.specs.Words.{same as sameBytes};
-ghost use Rattle.pieces.specs.Cuts.{Stands};
-ghost use Rattle.pieces.specs.declared.Kind.the-variants.{Start};
-ghost use Rattle.pass.specs.Sums.{Fit, recordsOf};
-ghost use Rattle.pass.specs.Asks.{nameIn, stepOf, aroundOf};
-ghost use Rattle.pass.specs.Reading.{beginFault, ElementReads, ContentReads};
-ghost use Rattle.pass.specs.Answers.{readFrom, answerOf, Kept};
-
-pub mod sums; // what is summed up along the way
-
-use pieces::Cut;
-use pieces::Kind;
+use pass_steps::Around;
+use pass_steps::Step;
+use pass_steps::around_root;
+use pass_steps::begin;
+use pass_steps::is_closed;
+use pass_steps::step_of;
+use pass_sums::State;
+use pass_sums::enter;
+use pass_sums::leave;
+use pass_sums::other;
 use pieces::piece_at;
-use scan::same;
-use sums::State;
-use sums::enter;
-use sums::leave;
-use sums::other;
-
-// What a piece inside the root asks for: an element begins, an element ends, the piece is passed, or it is refused.
-pub enum Step {
-    Child,
-    Close,
-    Pass,
-    Stop { number: usize },
-}
-
-// What a piece outside the root asks for: the root begins, the piece is passed, or it is refused.
-pub enum Around {
-    Root,
-    Skip,
-    Stray { number: usize, place: usize },
-}
+use pieces_cuts::Cut;
+ghost use mathlib.Core.Path.{_≡_};
+ghost use Prim.Native.Nat.{_≤_, _<_};
+ghost use lib.ListN.{length};
+ghost use Rattle.pieces_cuts.specs.Cuts.{Stands};
+ghost use Rattle.pieces_cuts.specs.declared.Kind.the-variants.{Start};
+ghost use Rattle.pass_sums.specs.Sums.{Fit, recordsOf};
+ghost use Rattle.pass.specs.Reading.{ElementReads, ContentReads};
+ghost use Rattle.pass.specs.Answers.{readFrom, answerOf, Kept};
 
 // Reading an element: the place behind it, or the first fault.
 pub enum Reached {
@@ -69,55 +53,6 @@ pub enum Inside {
 pub enum Outcome {
     Read { state: State },
     Refused { number: usize, place: usize },
-}
-
-fn step_of(kind: Kind) -> Step
-    ensures { λ r. ⌜ r ≡ stepOf kind ⌝ }
-{
-    match kind {
-        Kind::Start => Step::Child,
-        Kind::Finish => Step::Close,
-        Kind::Remark => Step::Pass,
-        Kind::Refer => Step::Pass,
-        Kind::Text => Step::Pass,
-        Kind::Malformed => Step::Stop { number: 4 },
-        Kind::Unsupported => Step::Stop { number: 5 },
-    }
-}
-
-// The number of a start tag's own fault, or 0. Where all 24 levels are left, nothing is open.
-fn begin(refers: bool, left: usize, begun: usize) -> usize
-    requires { ⌜ begun ≤ 4096 ⌝ }
-    ensures { λ r. ⌜ (r ≡ beginFault refers left begun) × (1 ≤ left + r) × (begun + 1 ≤ 4096 + r) ⌝ }
-{
-    if refers {
-        return 5;
-    }
-    if left == 0 {
-        return 7;
-    }
-    if begun == 0 {
-        return 0;
-    }
-    if left == 24 {
-        return 6;
-    }
-    if begun < 4096 {
-        return 0;
-    }
-    7
-}
-
-// Has the end tag the start tag's name?
-fn is_closed(s: &[u8], tag: Cut, close: Cut) -> bool
-    requires { ⌜ (tag .name ≤ tag .behind) × (tag .behind ≤ length (now s)) × (close .name ≤ close .behind) × (close .behind ≤ length (now s)) ⌝ }
-    ensures { λ r. ⌜ r ≡ sameBytes (nameIn (now (s .entry)) tag) (nameIn (now (s .entry)) close) ⌝ }
-{
-    let from = tag.name;
-    let to = tag.behind;
-    let first = close.name;
-    let last = close.behind;
-    same(&s[from..to], &s[first..last])
 }
 
 // The element whose start tag stands at this place, with `left` of the 24 levels for it and `begun` elements before it.
@@ -216,41 +151,6 @@ fn content(s: &[u8], at: usize, left: usize, begun: usize, st: State, table: &mu
     Inside::Stopped {
         number: 6,
         place: s.len(),
-    }
-}
-
-// Outside the root only remarks and blank text may stand.
-fn around_root(kind: Kind, at: usize, solid: usize, stop: usize) -> Around
-    ensures { λ r. ⌜ r ≡ aroundOf kind at solid stop ⌝ }
-{
-    match kind {
-        Kind::Start => Around::Root,
-        Kind::Remark => Around::Skip,
-        Kind::Text => {
-            if solid < stop {
-                return Around::Stray {
-                    number: 6,
-                    place: solid,
-                };
-            }
-            Around::Skip
-        }
-        Kind::Finish => Around::Stray {
-            number: 6,
-            place: at,
-        },
-        Kind::Refer => Around::Stray {
-            number: 6,
-            place: at,
-        },
-        Kind::Malformed => Around::Stray {
-            number: 4,
-            place: at,
-        },
-        Kind::Unsupported => Around::Stray {
-            number: 5,
-            place: at,
-        },
     }
 }
 

@@ -12,13 +12,13 @@ use lib.Seq.{drop-drop}
 use Rattle.cdi.specs.Words.{ascii, begins}
 use Rattle.cdi.specs.Pieces.{Piece, unsupported, isText, comment, instruction, endTag, startTag, reference, run, orMalformed, pieceAt, pieces}
 use Rattle.scan.proofs.Along.{drop-next, rest}
-use Rattle.pieces.specs.Places.{part}
-use Rattle.pieces.specs.Cuts.{pieceOf, Cuts, Stands}
-use Rattle.pieces.specs.declared.Kind.{Kind}
-use Rattle.pieces.specs.declared.Kind.the-variants.{Start, Finish, Remark, Refer, Text, Malformed, Unsupported}
-use Rattle.pieces.specs.declared.Cut.{Cut}
-use Rattle.pieces.proofs.Finding.{word-room}
-use Rattle.pieces.proofs.Walking.{skip-to}
+use Rattle.pieces_cuts.specs.Places.{part}
+use Rattle.pieces_cuts.specs.Cuts.{pieceOf, Cuts, Stands}
+use Rattle.pieces_cuts.specs.declared.Kind.{Kind}
+use Rattle.pieces_cuts.specs.declared.Kind.the-variants.{Start, Finish, Remark, Refer, Text, Malformed, Unsupported}
+use Rattle.pieces_cuts.specs.declared.Cut.{Cut}
+use Rattle.pieces_cuts.proofs.Finding.{word-room}
+use Rattle.pieces_attributes.proofs.Walking.{skip-to}
 
 -- ── which piece ──
 

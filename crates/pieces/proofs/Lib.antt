@@ -1,12 +1,2 @@
-pub mod Finding
-pub mod Attributing
-pub mod Walking
-pub mod Sorting
-pub mod Numbering
-pub mod Making
-pub mod Reading
-pub mod Tagging
-pub mod Referring
 pub mod Cutting
-pub mod Told
 pub mod Once

@@ -12,16 +12,16 @@ use Rattle.cdi.specs.Words.{any}
 use Rattle.cdi.specs.Pieces.{Piece, start, finish, remark, refer, text, malformed, unsupported, lower, nameAt, attributes, bears, twice}
 use Rattle.cdi.specs.Markup.{refers}
 use Rattle.scan.proofs.Tests.{eq-or-ne}
-use Rattle.pieces.specs.Places.{part, Name, attributeOf, attributeFrom, Next, valueFrom, Valued}
-use Rattle.pieces.specs.Characters.{clip, valueIn, Encoded}
-use Rattle.pieces.specs.Cuts.{pieceOf, before, Cuts, Stands}
-use Rattle.pieces.specs.declared.Kind.{Kind}
-use Rattle.pieces.specs.declared.Kind.the-variants.{Start, Finish, Remark, Refer, Text, Malformed, Unsupported}
-use Rattle.pieces.specs.declared.Cut.{Cut}
-use Rattle.pieces.specs.declared.attributes.Attribute.{Attribute as Places}
-use Rattle.pieces.specs.declared.attributes.Value.{Value}
-use Rattle.pieces.specs.declared.characters.Encoding.{Encoding}
-use Rattle.pieces.proofs.Reading.{part-length}
+use Rattle.pieces_cuts.specs.Places.{part, Name, attributeOf, attributeFrom, Next, valueFrom, Valued}
+use Rattle.pieces_characters.specs.Characters.{clip, valueIn, Encoded}
+use Rattle.pieces_cuts.specs.Cuts.{pieceOf, before, Cuts, Stands}
+use Rattle.pieces_cuts.specs.declared.Kind.{Kind}
+use Rattle.pieces_cuts.specs.declared.Kind.the-variants.{Start, Finish, Remark, Refer, Text, Malformed, Unsupported}
+use Rattle.pieces_cuts.specs.declared.Cut.{Cut}
+use Rattle.pieces_cuts.specs.declared.places.Attribute.{Attribute as Places}
+use Rattle.pieces_cuts.specs.declared.places.Value.{Value}
+use Rattle.pieces_characters.specs.declared.Encoding.{Encoding}
+use Rattle.pieces_marks.proofs.Reading.{part-length}
 
 -- what equals a definition is one
 module _ {A : Type 0} {x r q : A} where

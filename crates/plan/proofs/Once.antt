@@ -7,9 +7,9 @@ use lib.ListN.{take}
 use Rattle.cdi.specs.Faults.{Fault, fault, Answer, accepted, refused}
 use Rattle.cdi.specs.Planning.{Counts, planned, tableAfter}
 use Rattle.cdi.proofs.Quiet.{impossible}
-use Rattle.plan.specs.declared.Planned.{Planned}
-use Rattle.plan.specs.declared.Planned.the-variants.{Accepted, Refused}
-use Rattle.plan.specs.Outlines.{Outline, outlineOf, saidOf, answerOf}
+use Rattle.plan_stages.specs.declared.Planned.{Planned}
+use Rattle.plan_stages.specs.declared.Planned.the-variants.{Accepted, Refused}
+use Rattle.plan_stages.specs.Outlines.{Outline, outlineOf, saidOf, answerOf}
 
 module _ {A : Type 0} where
   same-accepted : {x y : A} → accepted x ≡ accepted y → x ≡ y

@@ -28,9 +28,9 @@ use Rattle.scan.proofs.Tests.{lt-or-le}
 use Rattle.cdi.proofs.Room.{fits, fits-table, refuses-table, short-table}
 use Rattle.cdi.proofs.Zero.{NoZero, planned-alike, table-alike}
 use Rattle.cdi.proofs.Promises.{table-is-plan, table-locates, nth-is, nth-none}
-use Rattle.plan.specs.declared.Planned.{Planned}
-use Rattle.plan.specs.declared.Planned.the-variants.{Accepted, Refused}
-use Rattle.plan.specs.Outlines.{answerOf}
+use Rattle.plan_stages.specs.declared.Planned.{Planned}
+use Rattle.plan_stages.specs.declared.Planned.the-variants.{Accepted, Refused}
+use Rattle.plan_stages.specs.Outlines.{answerOf}
 use Rattle.plan.proofs.Once.{plan-once}
 
 -- ── bytes after the first zero change neither answer nor table ──

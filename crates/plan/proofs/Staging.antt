@@ -24,20 +24,20 @@ use Rattle.text.specs.declared.End.the-variants as end
 use Rattle.text.specs.declared.Place.{Place}
 use Rattle.text.specs.declared.Place.the-variants as place
 use Rattle.text.proofs.Ends.{content-of}
-use Rattle.rules.specs.declared.Least.{Least}
-use Rattle.rules.specs.declared.Least.the-variants.{Nothing, Is}
-use Rattle.gauge.specs.declared.Leaves.{Leaves}
-use Rattle.gauge.specs.declared.Leaves.the-variants.{Never, At}
-use Rattle.pass.specs.declared.sums.State.{State}
+use Rattle.rules_judge.specs.declared.Least.{Least}
+use Rattle.rules_judge.specs.declared.Least.the-variants.{Nothing, Is}
+use Rattle.gauge_tag.specs.declared.Leaves.{Leaves}
+use Rattle.gauge_tag.specs.declared.Leaves.the-variants.{Never, At}
+use Rattle.pass_sums.specs.declared.State.{State}
 use Rattle.pass.specs.declared.Outcome.{Outcome}
 use Rattle.pass.specs.declared.Outcome.the-variants as outcome
-use Rattle.pass.specs.Sums.{atFirst, recordsOf}
-use Rattle.pass.specs.Folding.{Folded, folded, foldNodes}
+use Rattle.pass_sums.specs.Sums.{atFirst, recordsOf}
+use Rattle.pass_sums.specs.Folding.{Folded, folded, foldNodes}
 use Rattle.pass.specs.Answers as A
-use Rattle.plan.specs.declared.Planned.{Planned}
-use Rattle.plan.specs.declared.Planned.the-variants.{Accepted, Refused}
-use Rattle.plan.specs.Outlines.{outlineOf, ofContent, ofMarkup, ofTree, saidOf, Few, countedBy, addressedBy, ruledBy, settledOf}
-use Rattle.plan.proofs.Settling.{settles}
+use Rattle.plan_stages.specs.declared.Planned.{Planned}
+use Rattle.plan_stages.specs.declared.Planned.the-variants.{Accepted, Refused}
+use Rattle.plan_stages.specs.Outlines.{outlineOf, ofContent, ofMarkup, ofTree, saidOf, Few, countedBy, addressedBy, ruledBy, settledOf}
+use Rattle.plan_stages.proofs.Settling.{settles}
 
 -- ── 4 to 7 ──
 

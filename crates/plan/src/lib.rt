@@ -1,30 +1,28 @@
 // Planning: any text and any lent table in, a refusal with its place or the table out. The rows are made in a table of the planner's own and
 // copied to the caller's as the last step, so that a refusal writes nothing.
 
-ghost use mathlib.Core.Path.{_≡_};
-ghost use mathlib.Core.Bool.{cond};
-ghost use Prim.Native.Nat.{_*_, _≤_};
-ghost use lib.Dec.{leb};
-ghost use lib.ListN.{length, take};
-ghost use Rattle.cdi.specs.Planning.{planned, placed, tableAfter};
-ghost use Rattle.plan.specs.Outlines.{outlineOf, saidOf, Few, answerOf, putOf};
-
-mod stages; // stages 2 to 12
-
-use stages::read_content;
+use pass::Outcome;
+use pass::read;
+use pass_sums::start;
+use plan_stages::Planned;
+use plan_stages::settled;
+use plan_table::put;
 use text::End;
+use text::Place;
+use text::bad_character;
 use text::content_end;
+use text::is_opening;
+ghost use mathlib.Core.Path.{_≡_};
+ghost use Prim.Native.Nat.{_≤_};
+ghost use lib.ListN.{length};
+ghost use Rattle.cdi.specs.Planning.{planned, tableAfter};
+ghost use Rattle.plan_stages.specs.Outlines.{outlineOf, saidOf, Few, answerOf, ofContent, ofMarkup};
 
-// A description's records and variables, or the refusal.
-pub enum Planned {
-    Accepted { records: usize, variables: u64 },
-    Refused { number: usize, place: usize },
-}
-
-// The numbers of one record, and of as many as a description can have.
-pub const FIELDS: usize = 8;
-
+// The numbers of as many records as a description can have.
 pub const ROOM: usize = 32768;
+
+// The length of the first line.
+const OPENING: usize = 22;
 
 // Stages 1 to 12: what the text describes, with its rows at the front of these. Of a refused text the rows say nothing.
 pub fn outline(text: &[u8], rows: &mut [i64]) -> Planned
@@ -39,35 +37,6 @@ pub fn outline(text: &[u8], rows: &mut [i64]) -> Planned
     }
 }
 
-// Puts these numbers at the front of the table.
-fn copy(rows: &[i64], table: &mut [i64])
-    requires { ⌜ length (now rows) ≤ length (now table) ⌝ }
-    ensures { λ _. ⌜ now (table .exit) ≡ placed (now (rows .entry)) (now (table .entry)) ⌝ }
-{
-    let mut i = 0;
-    while i < rows.len() {
-        table[i] = rows[i];
-        i += 1;
-    }
-}
-
-// Stage 13: the rows of so many records go to the front of the table, where they fit.
-fn put(rows: &[i64], records: usize, variables: u64, table: &mut [i64]) -> Planned
-    requires { ⌜ (records ≤ 4096) × (32768 ≤ length (now rows)) ⌝ }
-    ensures answer { λ r. ⌜ r ≡ putOf records variables (length (now (table .entry))) ⌝ }
-    ensures after { λ _. ⌜ now (table .exit) ≡ cond (leb (8 * records) (length (now (table .entry)))) (placed (take (8 * records) (now (rows .entry))) (now (table .entry))) (now (table .entry)) ⌝ }
-{
-    let size = FIELDS * records;
-    if table.len() < size {
-        return Planned::Refused {
-            number: 13,
-            place: 0,
-        };
-    }
-    copy(&rows[0..size], table);
-    Planned::Accepted { records, variables }
-}
-
 // The plan of a text: its records stand at the front of the table and the rest of it is unchanged, or it is refused and the whole table is
 // unchanged.
 pub fn plan(text: &[u8], table: &mut [i64]) -> Planned
@@ -79,5 +48,40 @@ pub fn plan(text: &[u8], table: &mut [i64]) -> Planned
     match told {
         Planned::Refused { number, place } => Planned::Refused { number, place },
         Planned::Accepted { records, variables } => put(&rows, records, variables, table),
+    }
+}
+
+// Stages 4 to 12, of content that begins with the first line.
+fn read_elements(content: &[u8], rows: &mut [i64]) -> Planned
+    requires { ⌜ (22 ≤ length (now content)) × (length (now content) ≤ 65535) × (32768 ≤ length (now rows)) ⌝ }
+    ensures said { λ r. ⌜ saidOf r (now (rows .exit)) ≡ ofMarkup (now (content .entry)) ⌝ }
+    ensures few { λ r. ⌜ Few r ⌝ }
+{
+    let st = start();
+    let outcome = read(content, OPENING, st, rows);
+    match outcome {
+        Outcome::Refused { number, place } => Planned::Refused { number, place },
+        Outcome::Read { state } => settled(state),
+    }
+}
+
+// Stages 2 to 12.
+pub fn read_content(content: &[u8], rows: &mut [i64]) -> Planned
+    requires { ⌜ (length (now content) ≤ 65535) × (32768 ≤ length (now rows)) ⌝ }
+    ensures said { λ r. ⌜ saidOf r (now (rows .exit)) ≡ ofContent (now (content .entry)) ⌝ }
+    ensures few { λ r. ⌜ Few r ⌝ }
+{
+    let bad = bad_character(content);
+    match bad {
+        Place::At(place) => Planned::Refused { number: 2, place },
+        Place::Nothing => {
+            if is_opening(content) {
+                return read_elements(content, rows);
+            }
+            Planned::Refused {
+                number: 3,
+                place: 0,
+            }
+        }
     }
 }

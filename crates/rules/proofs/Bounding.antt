@@ -14,17 +14,17 @@ use Rattle.cdi.specs.Numbers.{bounded}
 use Rattle.cdi.specs.Rows.{Row, rowOf, intSizes, rows-page}
 use Rattle.cdi.specs.Rules as R
 use Rattle.cdi.specs.Rules.{Before, nothingBefore, behind, childFaults, ownNumber, boundOf, boundsOf, isSigned, boundFaults, tested, sizeText, sizeOf, isInt, intFaults}
-use Rattle.cdi.proofs.Quiet.{impossible, same-equal}
+use Rattle.cdi.proofs.Quiet.{impossible, same-equal, same-comm}
 use Rattle.cdi.proofs.Tests.{both-left, both-right}
-use Rattle.rules.specs.declared.Least.{Least}
-use Rattle.rules.specs.declared.Bound.{Bound}
-use Rattle.rules.specs.declared.Said.{Said}
-use Rattle.rules.specs.declared.Said.the-variants.{Silent}
+use Rattle.rules_judge.specs.declared.Least.{Least}
+use Rattle.rules_judge.specs.declared.Bound.{Bound}
+use Rattle.rules_judge.specs.declared.Said.{Said}
+use Rattle.rules_judge.specs.declared.Said.the-variants.{Silent}
 use Rattle.names.specs.Names.{elementNumber}
-use Rattle.rules.specs.Judging.{rowAt, asWhole, fromWhole, isValue, valueSaid, absent, fresh, boundBlame, intBlame, bounding, judgeNodes, judging-page}
+use Rattle.rules_judge.specs.Judging.{rowAt, asWhole, fromWhole, isValue, valueSaid, absent, fresh, boundBlame, intBlame, bounding, judgeNodes, judging-page}
 use Rattle.rules.proofs.Ordered.{like-nothing}
 use Rattle.rules.proofs.Heard.{heard, heard-means}
-use Rattle.rules.proofs.Kept.{int, same-comm, boundFrom, After, after}
+use Rattle.rules.proofs.Kept.{int, boundFrom, After, after}
 
 -- ── they are the bounds of the content ──
 

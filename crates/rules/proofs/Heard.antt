@@ -13,13 +13,13 @@ use Rattle.cdi.specs.Tree.{Nodes, end, element, other}
 use Rattle.cdi.specs.Numbers.{number, bounded}
 use Rattle.cdi.specs.Rules.{entryOf, rangeFaults, ownText, ownNumber, numberNames, numberFaults, isInt}
 use Rattle.cdi.proofs.Quiet.{impossible}
-use Rattle.rules.specs.declared.Judge.{Judge}
-use Rattle.rules.specs.declared.Least.{Least}
-use Rattle.rules.specs.declared.Said.{Said}
-use Rattle.rules.specs.declared.Said.the-variants.{Silent, No, Large, Value}
+use Rattle.rules_judge.specs.declared.Judge.{Judge}
+use Rattle.rules_judge.specs.declared.Least.{Least}
+use Rattle.rules_judge.specs.declared.Said.{Said}
+use Rattle.rules_judge.specs.declared.Said.the-variants.{Silent, No, Large, Value}
 use Rattle.names.specs.Names.{elementNumber}
-use Rattle.rules.specs.Judging.{rowAt, isForeign, asWhole, saidBy, saidFaults, isValue, spoken, isNumberRow, fresh, enterOf, otherOf, numberBlame, passed, leaveOf, judgeNodes}
-use Rattle.rules.proofs.Named.{Numbered}
+use Rattle.rules_judge.specs.Judging.{rowAt, isForeign, asWhole, saidBy, saidFaults, isValue, spoken, isNumberRow, fresh, enterOf, otherOf, numberBlame, passed, leaveOf, judgeNodes}
+use Rattle.rules_attributes.proofs.Named.{Numbered}
 use Rattle.rules.proofs.Steps.{Reads, reads-other, reads-leave, cond-holds, given-holds}
 
 -- what is heard of a content, after what was heard before

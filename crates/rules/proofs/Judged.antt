@@ -11,13 +11,13 @@ use Rattle.cdi.specs.Tree.{Nodes, end, element, other}
 use Rattle.cdi.specs.Rows.{Row, rowOf}
 use Rattle.cdi.specs.Rules.{Before, nothingBefore, behind, entryOf, childFaults, strayFaults, attributeFaults, missingFaults, numberFaults, intFaults, ownFaults, isInt, isKnown, faultsIn, elementFaults, offTable}
 use Rattle.cdi.proofs.Least.{lesser-assoc, lesser-comm, lesser-none, least-append}
-use Rattle.rules.specs.declared.Judge.{Judge}
-use Rattle.rules.specs.declared.Least.{Least}
-use Rattle.rules.specs.declared.Least.the-variants.{Nothing}
+use Rattle.rules_judge.specs.declared.Judge.{Judge}
+use Rattle.rules_judge.specs.declared.Least.{Least}
+use Rattle.rules_judge.specs.declared.Least.the-variants.{Nothing}
 use Rattle.names.specs.Names.{elementNumber}
-use Rattle.rules.specs.Judging.{asFault, blamed, rowAt, isForeign, fresh, entryFaults, enterOf, otherOf, missing, numberBlame, intBlame, passed, leaveOf, judgeNodes}
-use Rattle.rules.proofs.Blamed.{blamed-least}
-use Rattle.rules.proofs.Named.{Numbered, numbered, counted}
+use Rattle.rules_judge.specs.Judging.{asFault, blamed, rowAt, isForeign, fresh, entryFaults, enterOf, otherOf, missing, numberBlame, intBlame, passed, leaveOf, judgeNodes}
+use Rattle.rules_judge.proofs.Blamed.{blamed-least}
+use Rattle.rules_attributes.proofs.Named.{Numbered, numbered, counted}
 use Rattle.rules.proofs.Ordered.{Like, like-nothing, child-alike}
 use Rattle.rules.proofs.Steps.{Reads, reads-other, reads-leave, not-foreign, looked-up, enter-known, like-other, like-leave}
 use Rattle.rules.proofs.Heard.{number-blamed}

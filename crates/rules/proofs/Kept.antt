@@ -12,13 +12,13 @@ use Rattle.cdi.specs.Numbers.{bounded}
 use Rattle.cdi.specs.Rows.{rows-page}
 use Rattle.cdi.specs.Rules as R
 use Rattle.cdi.specs.Rules.{Before, behind, childFaults, entryFrom, entryOf, ownNumber, numberNames}
-use Rattle.cdi.proofs.Quiet.{impossible, same-equal, same-self}
-use Rattle.rules.specs.declared.Judge.{Judge}
-use Rattle.rules.specs.declared.Bound.{Bound}
-use Rattle.rules.specs.declared.Said.the-variants.{Silent}
+use Rattle.cdi.proofs.Quiet.{impossible, same-equal, same-comm}
+use Rattle.rules_judge.specs.declared.Judge.{Judge}
+use Rattle.rules_judge.specs.declared.Bound.{Bound}
+use Rattle.rules_judge.specs.declared.Said.the-variants.{Silent}
 use Rattle.names.specs.Names.{elementNumber}
-use Rattle.rules.specs.Judging.{rowAt, isForeign, isValue, entryFaults, enterOf, otherOf, bounding, boundSound, passed, leaveOf, judgeNodes, judging-page}
-use Rattle.rules.proofs.Named.{numbered, counted}
+use Rattle.rules_judge.specs.Judging.{rowAt, isForeign, isValue, entryFaults, enterOf, otherOf, bounding, boundSound, passed, leaveOf, judgeNodes, judging-page}
+use Rattle.rules_attributes.proofs.Named.{numbered, counted}
 use Rattle.rules.proofs.Ordered.{Like, child-alike}
 use Rattle.rules.proofs.Steps.{Reads, reads-other, reads-leave, cond-holds, not-foreign, looked-up, enter-known, like-other, like-leave}
 use Rattle.rules.proofs.Heard.{heard, heard-means, fresh-said}
@@ -44,18 +44,6 @@ min-name = record { entry = (3, false); known = refl; listed = refl }
 max-name : BoundName (ascii "max")
 unfolding words-page rows-page judging-page entryOf entryFrom numberNames
 max-name = record { entry = (4, false); known = refl; listed = refl }
-
-turned : (x y : List ℕ) → same x y ≡ true → same y x ≡ true
-turned x y e = rw (same-equal x y e) (same-self y)
-
--- Two byte strings are found to be the same either way round.
-pub same-comm : (x y : List ℕ) → same x y ≡ same y x
-same-comm x y = by (same x y) (same y x) refl refl
-  where
-    by : (t u : Bool) → same x y ≡ t → same y x ≡ u → same x y ≡ same y x
-    by true u p q = rw (p, turned x y p)
-    by false true p q = rw (q, turned y x q)
-    by false false p q = rw (p, q)
 
 -- ── the bounds that the judge keeps ──
 

@@ -1,6 +1,4 @@
 -- The laws of the judge.
-pub mod Blamed
-pub mod Named
 pub mod Ordered
 pub mod Steps
 pub mod Heard
@@ -8,14 +6,5 @@ pub mod Needed
 pub mod Kept
 pub mod Bounding
 pub mod Judged
-pub mod Blaming
-pub mod Below
-pub mod Storing
-pub mod Tabled
-pub mod Sized
-pub mod Numbering
-pub mod Attributed
-pub mod Spoken
-pub mod Parting
 pub mod Passing
 pub mod Once

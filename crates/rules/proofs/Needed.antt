@@ -12,11 +12,11 @@ use Rattle.cdi.specs.Tree.{Nodes, end, element, other}
 use Rattle.cdi.specs.Rows.{rowOf, rows-page}
 use Rattle.cdi.specs.Rules.{offTable, entryFrom, entryOf, hasChild, missingFaults}
 use Rattle.cdi.proofs.Quiet.{same-equal, same-self}
-use Rattle.rules.specs.declared.Judge.{Judge}
-use Rattle.rules.specs.declared.Least.{Least}
+use Rattle.rules_judge.specs.declared.Judge.{Judge}
+use Rattle.rules_judge.specs.declared.Least.{Least}
 use Rattle.names.specs.Names.{elementNumber}
-use Rattle.rules.specs.Judging.{rowAt, isForeign, fresh, enterOf, otherOf, missing, passed, leaveOf, judgeNodes, judging-page}
-use Rattle.rules.proofs.Named.{Numbered}
+use Rattle.rules_judge.specs.Judging.{rowAt, isForeign, fresh, enterOf, otherOf, missing, passed, leaveOf, judgeNodes, judging-page}
+use Rattle.rules_attributes.proofs.Named.{Numbered}
 use Rattle.rules.proofs.Ordered.{lesser-same}
 use Rattle.rules.proofs.Steps.{Reads, reads-other, reads-leave, cond-holds, not-foreign, looked-up}
 

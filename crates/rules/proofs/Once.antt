@@ -5,12 +5,12 @@ use mathlib.Core.Bool.{false}
 use Prim.Native.Nat.{ℕ}
 use Rattle.cdi.specs.Pieces.{attributes}
 use lib.ListN.{drop}
-use Rattle.pieces.specs.Places.{part}
-use Rattle.pieces.specs.Cuts.{pieceOf}
-use Rattle.pieces.specs.declared.Cut.{Cut}
-use Rattle.rules.specs.declared.Least.the-variants.{Nothing}
-use Rattle.rules.specs.declared.Judge.{Judge}
-use Rattle.rules.specs.Judging.{fresh, enterOf, otherOf, leaveOf}
+use Rattle.pieces_cuts.specs.Places.{part}
+use Rattle.pieces_cuts.specs.Cuts.{pieceOf}
+use Rattle.pieces_cuts.specs.declared.Cut.{Cut}
+use Rattle.rules_judge.specs.declared.Least.the-variants.{Nothing}
+use Rattle.rules_judge.specs.declared.Judge.{Judge}
+use Rattle.rules_judge.specs.Judging.{fresh, enterOf, otherOf, leaveOf}
 
 pub start-once : {q r : Judge} → q ≡ fresh Nothing 0 false → r ≡ fresh Nothing 0 false → q ≡ r
 start-once e f = e ∙ sym f

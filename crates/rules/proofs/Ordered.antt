@@ -13,7 +13,7 @@ use Rattle.cdi.specs.Faults.{Fault, unless, before, lesser, least}
 use Rattle.cdi.specs.Rows.{Row}
 use Rattle.cdi.specs.Rules.{Before, nothingBefore, entryOf, childFaults, behind, offTable}
 use Rattle.cdi.proofs.Quiet.{impossible}
-use Rattle.rules.specs.Judging.{entryFaults}
+use Rattle.rules_judge.specs.Judging.{entryFaults}
 
 -- the last entry, and the children before
 pub record Like (last : ℕ) (b : Before) : Type 0 where

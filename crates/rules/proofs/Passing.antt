@@ -17,19 +17,19 @@ use Rattle.cdi.specs.Rows.{rowOf}
 use Rattle.cdi.specs.Rules.{entryOf, attributeFaults, sizeText, sizeOf}
 use Rattle.scan.proofs.Tests.{lt-or-le}
 use Rattle.names.specs.Names.{elementNumber}
-use Rattle.pieces.specs.Cuts.{pieceOf, Stands}
-use Rattle.pieces.specs.declared.Cut.{Cut}
-use Rattle.rules.specs.declared.Least.{Least}
-use Rattle.rules.specs.declared.Said.{Said}
-use Rattle.rules.specs.declared.Judge.{Judge}
-use Rattle.rules.specs.Judging.{blamed, rowAt, isForeign, isNumberRow, spoken, fresh, entryFaults, enterOf, otherOf, missing, numberBlame, boundBlame, intBlame, boundSound, passed, leaveOf}
-use Rattle.rules.specs.Tables.{entryAt, manyAt, inTurn, sizeIn, intSize}
-use Rattle.rules.specs.Parts.{strayBy, isLimit, missingBy, numberBy, intBy, limitSound, leftOf}
-use Rattle.rules.proofs.Blaming.{blamed-in-turn}
-use Rattle.rules.proofs.Named.{numbered}
-use Rattle.rules.proofs.Numbering.{is-int, is-relation, is-min, is-max, is-numeric, entry-known, number-below}
-use Rattle.rules.proofs.Sized.{int-size, size-is}
-use Rattle.rules.proofs.Spoken.{stray-piece}
+use Rattle.pieces_cuts.specs.Cuts.{pieceOf, Stands}
+use Rattle.pieces_cuts.specs.declared.Cut.{Cut}
+use Rattle.rules_judge.specs.declared.Least.{Least}
+use Rattle.rules_judge.specs.declared.Said.{Said}
+use Rattle.rules_judge.specs.declared.Judge.{Judge}
+use Rattle.rules_judge.specs.Judging.{blamed, rowAt, isForeign, isNumberRow, spoken, fresh, entryFaults, enterOf, otherOf, missing, numberBlame, boundBlame, intBlame, boundSound, passed, leaveOf}
+use Rattle.rules_judge.specs.Tables.{entryAt, manyAt, inTurn, sizeIn, intSize}
+use Rattle.rules_judge.specs.Parts.{strayBy, isLimit, missingBy, numberBy, intBy, limitSound, leftOf}
+use Rattle.rules_judge.proofs.Blaming.{blamed-in-turn}
+use Rattle.rules_attributes.proofs.Named.{numbered}
+use Rattle.rules_attributes.proofs.Numbering.{is-int, is-relation, is-min, is-max, is-numeric, entry-known, number-below}
+use Rattle.rules_tables.proofs.Sized.{int-size, size-is}
+use Rattle.rules_content.proofs.Spoken.{stray-piece}
 
 -- ── a tag's places ──
 

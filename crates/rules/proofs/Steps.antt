@@ -9,9 +9,9 @@ use Rattle.cdi.specs.Words.{given}
 use Rattle.cdi.specs.Pieces.{Attribute, Piece}
 use Rattle.cdi.specs.Rules.{Before, entryOf, attributeFaults, behind, isInt}
 use Rattle.cdi.specs.Rows.{rowOf}
-use Rattle.rules.specs.declared.Judge.{Judge}
+use Rattle.rules_judge.specs.declared.Judge.{Judge}
 use Rattle.names.specs.Names.{elementNumber}
-use Rattle.rules.specs.Judging.{blamed, rowAt, isForeign, fresh, entryFaults, enterOf, otherOf, passed, leaveOf}
+use Rattle.rules_judge.specs.Judging.{blamed, rowAt, isForeign, fresh, entryFaults, enterOf, otherOf, passed, leaveOf}
 use Rattle.rules.proofs.Ordered.{Like, like-unknown, like-behind}
 
 -- the judge of an element's content: the element's number, and whether it stands in an int

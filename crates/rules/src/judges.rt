@@ -1,19 +1,19 @@
 // Judges by their parts: one of which nothing is read yet, and one behind a child.
 
+use rules_judge::Bound;
+use rules_judge::Judge;
+use rules_judge::Least;
+use rules_judge::Said;
+use rules_judge::Whole;
+use rules_tables::INT;
+use rules_tables::MAX;
+use rules_tables::MIN;
 ghost use mathlib.Core.Path.{_≡_};
 ghost use mathlib.Core.Bool.{true, cond, _||_};
 ghost use Prim.Native.Nat.{max};
 ghost use lib.Dec.{eqb};
-ghost use Rattle.rules.specs.Judging.{fresh as freshJudge, passed as passedJudge, isValue, valueSaid, bounding as boundBy};
-ghost use Rattle.rules.specs.Parts.{leftOf};
-use super::tables::INT;
-use super::tables::MAX;
-use super::tables::MIN;
-use crate::Bound;
-use crate::Judge;
-use crate::Least;
-use crate::Said;
-use crate::Whole;
+ghost use Rattle.rules_judge.specs.Judging.{fresh as freshJudge, passed as passedJudge, isValue, valueSaid, bounding as boundBy};
+ghost use Rattle.rules_judge.specs.Parts.{leftOf};
 
 // Nothing of the content is read yet.
 pub fn fresh(least: Least, row: u8, numeric: bool) -> Judge

@@ -1,89 +1,34 @@
 // Stages 8 to 10: what is known of an element's content by the table of elements, as far as it has been read.
 
-ghost use mathlib.Core.Path.{_≡_};
-ghost use mathlib.Core.Bool.{false};
-ghost use lib.ListN.{drop};
-ghost use Rattle.cdi.specs.Pieces.{attributes as attributesIn};
-ghost use Rattle.pieces.specs.Places.{part};
-ghost use Rattle.pieces.specs.Cuts.{pieceOf, Stands};
-ghost use Rattle.rules.specs.Judging.{fresh as freshJudge, enterOf, otherOf, leaveOf};
+pub mod judges; // judges by their parts
 
-mod faults; // the least fault
-pub mod bounds; // an int's bounds
-mod tables; // the table of elements by number
-mod sizes; // sizes, which are exact texts
-mod attributes; // the attributes of a tag
-mod content; // what stands between children
-mod children; // a child that is left
-mod judges; // judges by their parts
-
-use attributes::attribute_blame;
-use children::int_blame;
-use children::is_limit_sound;
-use children::missing_blame;
-use children::number_blame;
-use content::said_next;
-use content::stray_blame;
-use faults::blame;
-use faults::blame_unless;
 use judges::fresh;
 use judges::is_numeric_inside;
 use judges::left;
 use judges::passed;
 use names::element_number;
-use pieces::Cut;
-use tables::entry_of;
-use tables::is_in_turn;
-
-// A fault's number and place.
-pub struct Fault {
-    pub number: u64,
-    pub place: usize,
-}
-
-// The least fault so far.
-pub enum Least {
-    Nothing,
-    Is(Fault),
-}
-
-// A whole number; zero is not negative.
-pub struct Whole {
-    pub negative: bool,
-    pub magnitude: u64,
-}
-
-// What an element's content has said as a number: nothing yet, no number, one out of -2^63 to 2^64 - 1, or its value.
-pub enum Said {
-    Silent,
-    No,
-    Large,
-    Value(Whole),
-}
-
-// A bound of an int, where it stands.
-pub struct Bound {
-    pub there: bool,
-    pub place: usize,
-    pub value: Whole,
-}
-
-// What is known of an element while its content is read. `row` is the element's number, 0 for the text itself, FOREIGN for an element whose
-// content isn't judged; `last` is the last entry of the row that a child has had, counted from 1.
-pub struct Judge {
-    pub least: Least,
-    pub row: u8,
-    pub numeric: bool,
-    pub last: u8,
-    pub one: bool,
-    pub two: bool,
-    pub said: Said,
-    pub low: Bound,
-    pub high: Bound,
-    pub sound: bool,
-}
-
-pub const FOREIGN: u8 = 24;
+use pieces_cuts::Cut;
+use rules_attributes::attribute_blame;
+use rules_children::int_blame;
+use rules_children::is_limit_sound;
+use rules_children::missing_blame;
+use rules_children::number_blame;
+use rules_content::said_next;
+use rules_content::stray_blame;
+use rules_judge::FOREIGN;
+use rules_judge::Judge;
+use rules_judge::Least;
+use rules_judge::faults::blame;
+use rules_judge::faults::blame_unless;
+use rules_tables::entry_of;
+use rules_tables::is_in_turn;
+ghost use mathlib.Core.Path.{_≡_};
+ghost use mathlib.Core.Bool.{false};
+ghost use lib.ListN.{drop};
+ghost use Rattle.cdi.specs.Pieces.{attributes as attributesIn};
+ghost use Rattle.pieces_cuts.specs.Places.{part};
+ghost use Rattle.pieces_cuts.specs.Cuts.{pieceOf, Stands};
+ghost use Rattle.rules_judge.specs.Judging.{fresh as freshJudge, enterOf, otherOf, leaveOf};
 
 // The judge of the text itself, of which nothing is read yet.
 pub fn start() -> Judge

@@ -14,11 +14,11 @@ use Rattle.cdi.specs.Access.{childOf}
 use Rattle.numbers.specs.Held.{numberOf}
 use Rattle.numbers.specs.declared.Number.{Number}
 use Rattle.numbers.specs.declared.Number.the-variants.{Not}
-use Rattle.pass.specs.Reading.{here}
+use Rattle.levels.specs.Ahead.{here}
 use Rattle.children.specs.Siblings.{nodesIn, Inside, Named}
 use Rattle.children.specs.declared.Part.{Part}
 use Rattle.children.specs.declared.Part.the-variants.{Missing, Empty, From}
-use Rattle.maps.proofs.Matching.{inside-high, inside-deep, part-inside}
+use Rattle.children.proofs.Insides.{inside-high, inside-deep, part-inside}
 use Rattle.settings.specs.Contents.{contentIn}
 use Rattle.settings.specs.Limits.{ownIn, childNumber}
 

@@ -18,13 +18,12 @@ use Rattle.cdi.specs.Access.{contentAt}
 use Rattle.cdi.proofs.Quiet.{impossible}
 use Rattle.scan.proofs.Tests.{lt-or-le}
 use Rattle.pieces.proofs.Cutting.{pieces-skip}
-use Rattle.pieces.specs.Cuts.{pieceOf, Stands}
-use Rattle.pieces.specs.declared.Kind.{Kind}
-use Rattle.pieces.specs.declared.Kind.the-variants.{Start, Finish, Remark, Refer, Text, Malformed, Unsupported}
-use Rattle.pieces.specs.declared.Cut.{Cut}
-use Rattle.pass.specs.Asks.{from}
-use Rattle.pass.specs.Reading.{here}
-use Rattle.pass.proofs.Levels.{split}
+use Rattle.pieces_cuts.specs.Cuts.{pieceOf, Stands}
+use Rattle.pieces_cuts.specs.declared.Kind.{Kind}
+use Rattle.pieces_cuts.specs.declared.Kind.the-variants.{Start, Finish, Remark, Refer, Text, Malformed, Unsupported}
+use Rattle.pieces_cuts.specs.declared.Cut.{Cut}
+use Rattle.levels.specs.Ahead.{from, here}
+use Rattle.levels.proofs.Levels.{split}
 use Rattle.children.specs.Siblings.{ahead, contentOf, partOf, nodesIn, Inside}
 use Rattle.children.specs.declared.Part.{Part}
 use Rattle.children.proofs.Turning.{nothing-ahead}

@@ -1,5 +1,11 @@
 // What the text says of one setting, asked by the place in its record: its content, a child of it, and the number in that child.
 
+use children::Part;
+use children::content_of;
+use children::part_of;
+use numbers::Number;
+use pieces::piece_at;
+use words::own_number;
 ghost use mathlib.Core.Path.{_≡_};
 ghost use mathlib.Core.Bool.{true};
 ghost use Prim.Native.Nat.{_≤_, _<_};
@@ -7,20 +13,10 @@ ghost use lib.ListN.{length};
 ghost use Rattle.cdi.specs.Words.{isSome};
 ghost use Rattle.cdi.specs.Access.{contentAt, childOf};
 ghost use Rattle.numbers.specs.Held.{numberOf};
-ghost use Rattle.pass.specs.Reading.{here};
+ghost use Rattle.levels.specs.Ahead.{here};
 ghost use Rattle.children.specs.Siblings.{nodesIn, Inside};
 ghost use Rattle.settings.specs.Contents.{contentIn};
 ghost use Rattle.settings.specs.Limits.{ownIn, childNumber};
-
-pub mod bounds; // an int's sign and bounds
-pub mod admission; // what a map admits
-
-use children::Part;
-use children::content_of;
-use children::part_of;
-use numbers::Number;
-use pieces::piece_at;
-use words::own_number;
 
 // The content of the element that stands at this place of a tree, which is that of the text from another place on: the tag is cut again there.
 pub fn content_at(s: &[u8], from: usize, place: usize) -> Part

@@ -1,4 +1,3 @@
 pub mod Ends
-pub mod Characters
 pub mod Checks
 pub mod Once

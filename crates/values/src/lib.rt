@@ -1,12 +1,12 @@
 // Values in bytes: numbers big-endian over the whole of a part, signed ones in two's complement, text with zeros behind it.
 
+use scan::byte_at;
 ghost use mathlib.Core.Path.{_≡_};
 ghost use Prim.Native.Nat.{_+_, _*_, _^_, _≤_, _<_};
 ghost use lib.ListN.{length};
 ghost use Rattle.cdi.specs.Text.{zeroFrom};
 ghost use Rattle.cdi.specs.Values.{bytesOf, valueOf as numberOf, complement, uncomplement, padded};
 ghost use Rattle.values.specs.Held.{wholeOf, Plain, zeroAt};
-use scan::byte_at;
 
 // A whole number; zero is not negative.
 pub struct Whole {

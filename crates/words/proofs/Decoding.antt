@@ -21,17 +21,16 @@ use Rattle.cdi.proofs.Quiet.{impossible}
 use Rattle.cdi.proofs.Tests.{both-left, both-right}
 use Rattle.scan.proofs.Tests.{lt-or-le}
 use Rattle.scan.proofs.Words.{begun-length}
-use Rattle.pieces.specs.Characters.{utf8Of, Encoded}
-use Rattle.pieces.specs.Cuts.{pieceOf, Stands}
-use Rattle.pieces.specs.Places.{part}
-use Rattle.pieces.proofs.Reading.{part-length}
-use Rattle.pieces.specs.declared.Kind.{Kind}
-use Rattle.pieces.specs.declared.Kind.the-variants.{Start, Finish, Remark, Refer, Text, Malformed, Unsupported}
-use Rattle.pieces.specs.declared.Cut.{Cut}
-use Rattle.pieces.specs.declared.characters.Encoding.{Encoding}
-use Rattle.pass.specs.Asks.{from}
-use Rattle.pass.specs.Reading.{here}
-use Rattle.pass.proofs.Levels.{split}
+use Rattle.pieces_characters.specs.Characters.{utf8Of, Encoded}
+use Rattle.pieces_cuts.specs.Cuts.{pieceOf, Stands}
+use Rattle.pieces_cuts.specs.Places.{part}
+use Rattle.pieces_marks.proofs.Reading.{part-length}
+use Rattle.pieces_cuts.specs.declared.Kind.{Kind}
+use Rattle.pieces_cuts.specs.declared.Kind.the-variants.{Start, Finish, Remark, Refer, Text, Malformed, Unsupported}
+use Rattle.pieces_cuts.specs.declared.Cut.{Cut}
+use Rattle.pieces_characters.specs.declared.Encoding.{Encoding}
+use Rattle.levels.specs.Ahead.{from, here}
+use Rattle.levels.proofs.Levels.{split}
 use Rattle.children.specs.Siblings.{ahead, Passed}
 use Rattle.children.proofs.Turning.{nothing-ahead}
 use Rattle.words.specs.declared.Role.{Role}

@@ -8,7 +8,7 @@ use Rattle.cdi.specs.Rules.{ownNumber}
 use Rattle.cdi.specs.Access.{decoded}
 use Rattle.numbers.specs.Held.{numberOf}
 use Rattle.numbers.specs.declared.Number.{Number}
-use Rattle.pass.specs.Reading.{here}
+use Rattle.levels.specs.Ahead.{here}
 use Rattle.words.specs.declared.Own.{Own}
 use Rattle.words.specs.Own.{textOf, Told}
 

@@ -15,14 +15,13 @@ use Rattle.cdi.proofs.Quiet.{impossible}
 use Rattle.numbers.specs.Held.{numberOf}
 use Rattle.numbers.specs.declared.Number.{Number}
 use Rattle.numbers.specs.declared.Number.the-variants.{Not}
-use Rattle.pieces.specs.Places.{part}
-use Rattle.pieces.specs.Cuts.{pieceOf, Stands}
-use Rattle.pieces.specs.declared.Kind.{Kind}
-use Rattle.pieces.specs.declared.Kind.the-variants.{Start, Finish, Remark, Refer, Text, Malformed, Unsupported}
-use Rattle.pieces.specs.declared.Cut.{Cut}
-use Rattle.pass.specs.Asks.{from, nameIn, attributesIn}
-use Rattle.pass.specs.Reading.{here}
-use Rattle.pass.proofs.Levels.{split}
+use Rattle.pieces_cuts.specs.Places.{part}
+use Rattle.pieces_cuts.specs.Cuts.{pieceOf, Stands}
+use Rattle.pieces_cuts.specs.declared.Kind.{Kind}
+use Rattle.pieces_cuts.specs.declared.Kind.the-variants.{Start, Finish, Remark, Refer, Text, Malformed, Unsupported}
+use Rattle.pieces_cuts.specs.declared.Cut.{Cut}
+use Rattle.levels.specs.Ahead.{from, nameIn, attributesIn, here}
+use Rattle.levels.proofs.Levels.{split}
 use Rattle.children.specs.Siblings.{ahead}
 use Rattle.children.proofs.Turning.{nothing-ahead}
 use Rattle.words.specs.declared.Role.{Role}

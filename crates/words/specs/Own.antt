@@ -8,10 +8,10 @@ use lib.ListN.{length, drop}
 use Rattle.cdi.specs.Words.{begins}
 use Rattle.cdi.specs.Tree.{Nodes, end, element, other}
 use Rattle.cdi.specs.Rules.{ownText}
-use Rattle.pieces.specs.Places.{part}
-use Rattle.pieces.specs.declared.Kind.{Kind}
-use Rattle.pieces.specs.declared.Kind.the-variants.{Start, Finish, Remark, Refer, Text, Malformed, Unsupported}
-use Rattle.pass.specs.Reading.{here}
+use Rattle.pieces_cuts.specs.Places.{part}
+use Rattle.pieces_cuts.specs.declared.Kind.{Kind}
+use Rattle.pieces_cuts.specs.declared.Kind.the-variants.{Start, Finish, Remark, Refer, Text, Malformed, Unsupported}
+use Rattle.levels.specs.Ahead.{here}
 use Rattle.words.specs.declared.Role.{Role}
 use Rattle.words.specs.declared.Role.the-variants as role
 use Rattle.words.specs.declared.Own.{Own}

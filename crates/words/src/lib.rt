@@ -1,25 +1,25 @@
 // What the text says of one element in its own content: one run of text and the number that it is, or text with its references decoded. A place stands
 // for what is still to come at its level.
 
+use children::after;
+use numbers::Number;
+use numbers::read_number;
+use pieces::piece_at;
+use pieces_characters::utf8;
+use pieces_cuts::Kind;
+use scan::begins_at;
 ghost use mathlib.Core.Path.{_≡_};
 ghost use Prim.Native.Nat.{_≤_};
 ghost use lib.ListN.{length, drop};
 ghost use Rattle.cdi.specs.Words.{same as sameBytes, begins};
 ghost use Rattle.cdi.specs.Rules.{ownNumber};
 ghost use Rattle.cdi.specs.Access.{decoded as decodedText};
-ghost use Rattle.pieces.specs.Places.{part};
-ghost use Rattle.pieces.specs.Characters.{utf8Of};
+ghost use Rattle.pieces_cuts.specs.Places.{part};
+ghost use Rattle.pieces_characters.specs.Characters.{utf8Of};
 ghost use Rattle.numbers.specs.Held.{numberOf};
-ghost use Rattle.pass.specs.Reading.{here};
+ghost use Rattle.levels.specs.Ahead.{here};
 ghost use Rattle.children.specs.Siblings.{ahead};
 ghost use Rattle.words.specs.Own.{roleOf, isEnd, Told, behindOf};
-use children::after;
-use numbers::Number;
-use numbers::read_number;
-use pieces::Kind;
-use pieces::characters::utf8;
-use pieces::piece_at;
-use scan::begins_at;
 
 // What a piece is to a text: a run of it, a reference in it, a child, what is dropped, its end, or no piece at all.
 pub enum Role {

@@ -1,5 +1,5 @@
 use borrow.Author.Needs.{needs}
-use Rattle.locate.specs.Finding.{toldOf}
+use Rattle.locate.specs.Answers.{toldOf}
 use Rattle.exports.specs.Addresses.{addressIn}
 use Rattle.exports.proofs.Told.{telling}
 use Rattle.exports.proofs.address_of.Statement.{statement}

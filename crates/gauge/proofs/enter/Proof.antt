@@ -1,5 +1,5 @@
 use borrow.Author.Needs.{needs}
-use Rattle.gauge.proofs.Moving.{entering}
+use Rattle.gauge_elements.proofs.Moving.{entering}
 use Rattle.gauge.proofs.enter.Statement.{statement}
 use Rattle.gauge.proofs.enter.Tie as tie
 

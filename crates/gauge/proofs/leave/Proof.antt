@@ -1,5 +1,5 @@
 use borrow.Author.Needs.{needs}
-use Rattle.gauge.proofs.Moving.{behind}
+use Rattle.gauge_elements.proofs.Moving.{behind}
 use Rattle.gauge.proofs.leave.Statement.{statement}
 use Rattle.gauge.proofs.leave.Tie as tie
 

@@ -1,6 +1,6 @@
 use borrow.Author.Needs.{needs}
 use Rattle.scan.proofs.Tests.{tests, calls}
-use Rattle.gauge.specs.Numbered.{levelBy}
+use Rattle.gauge_tag.specs.Numbered.{levelBy}
 use Rattle.gauge.proofs.level_in.Statement.{statement}
 use Rattle.gauge.proofs.level_in.Tie as tie
 

@@ -14,13 +14,13 @@ use Rattle.pass.proofs.+content+element.Lts-content as content-lts
 use Rattle.pass.proofs.element.Reads as element
 use Rattle.pass.proofs.element.Kinds as element-kinds
 use Rattle.pass.proofs.+content+element.Lts-element as element-lts
-use Rattle.pass.proofs.begin.Reads as begin-reads
-use Rattle.pass.proofs.is_closed.Reads as is-closed-reads
+use Rattle.pass_steps.proofs.begin.Reads as begin-reads
+use Rattle.pass_steps.proofs.is_closed.Reads as is-closed-reads
 use Rattle.pieces.proofs.piece_at.Reads as piece-at-reads
-use Rattle.pass.proofs.step_of.Reads as step-of-reads
-use Rattle.pass.proofs.sums.enter.Reads as enter-reads
-use Rattle.pass.proofs.sums.leave.Reads as leave-reads
-use Rattle.pass.proofs.sums.other.Reads as other-reads
+use Rattle.pass_steps.proofs.step_of.Reads as step-of-reads
+use Rattle.pass_sums.proofs.enter.Reads as enter-reads
+use Rattle.pass_sums.proofs.leave.Reads as leave-reads
+use Rattle.pass_sums.proofs.other.Reads as other-reads
 use Rattle.pass.proofs.+content+element.{statement}
 use Rattle.pass.proofs.+content+element.Tie.{close}
 

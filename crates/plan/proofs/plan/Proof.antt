@@ -1,5 +1,5 @@
 use borrow.Author.Needs.{needs}
-use Rattle.plan.proofs.Placing.{planning}
+use Rattle.plan_table.proofs.Placing.{planning}
 use Rattle.plan.proofs.plan.Statement.{statement}
 use Rattle.plan.proofs.plan.Tie as tie
 

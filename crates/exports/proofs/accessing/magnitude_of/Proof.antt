@@ -1,5 +1,5 @@
 use borrow.Author.Needs.{needs}
-use Rattle.access.specs.Told.{readingOf}
+use Rattle.access_reading.specs.Told.{readingOf}
 use Rattle.exports.specs.Accesses.{magnitudeIn, magnitudeOf}
 use Rattle.exports.proofs.Readings.{accessing}
 use Rattle.exports.proofs.accessing.magnitude_of.Statement.{statement}

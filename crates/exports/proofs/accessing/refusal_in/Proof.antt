@@ -1,5 +1,5 @@
 use borrow.Author.Needs.{needs}
-use Rattle.access.specs.Told.{readingOf}
+use Rattle.access_reading.specs.Told.{readingOf}
 use Rattle.exports.specs.Refusals.{numberIn}
 use Rattle.exports.proofs.accessing.refusal_in.Statement.{statement}
 use Rattle.exports.proofs.accessing.refusal_in.Tie as tie

@@ -1,5 +1,5 @@
 use borrow.Author.Needs.{needs}
-use Rattle.access.specs.Told.{writtenOf}
+use Rattle.access_writing.specs.Told.{writtenOf}
 use Rattle.exports.specs.Refusals.{numberIn}
 use Rattle.exports.proofs.accessing.refusal_of.Statement.{statement}
 use Rattle.exports.proofs.accessing.refusal_of.Tie as tie

@@ -1,5 +1,5 @@
 use borrow.Author.Needs.{needs}
-use Rattle.plan.specs.Outlines.{answerOf}
+use Rattle.plan_stages.specs.Outlines.{answerOf}
 use Rattle.exports.specs.Refusals.{numberIn}
 use Rattle.exports.proofs.planning.number_of.Statement.{statement}
 use Rattle.exports.proofs.planning.number_of.Tie as tie

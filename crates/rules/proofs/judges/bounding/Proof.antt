@@ -1,5 +1,5 @@
 use borrow.Author.Needs.{needs}
-use Rattle.rules.proofs.Parting.{bound-kept}
+use Rattle.rules_children.proofs.Parting.{bound-kept}
 use Rattle.rules.proofs.judges.bounding.Statement.{statement}
 use Rattle.rules.proofs.judges.bounding.Tie as tie
 

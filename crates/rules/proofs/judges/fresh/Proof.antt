@@ -1,5 +1,5 @@
 use borrow.Author.Needs.{needs}
-use Rattle.rules.specs.Judging.{fresh, absent, asWhole}
+use Rattle.rules_judge.specs.Judging.{fresh, absent, asWhole}
 use Rattle.rules.proofs.judges.fresh.Statement.{statement}
 use Rattle.rules.proofs.judges.fresh.Tie as tie
 

@@ -1,5 +1,5 @@
 use borrow.Author.Needs.{needs}
-use Rattle.rules.proofs.Parting.{eithers}
+use Rattle.rules_children.proofs.Parting.{eithers}
 use Rattle.rules.proofs.judges.is_numeric_inside.Statement.{statement}
 use Rattle.rules.proofs.judges.is_numeric_inside.Tie as tie
 

@@ -1,5 +1,5 @@
 use borrow.Author.Needs.{needs}
-use Rattle.rules.proofs.Parting.{judge-parts}
+use Rattle.rules_children.proofs.Parting.{judge-parts}
 use Rattle.rules.proofs.judges.left.Statement.{statement}
 use Rattle.rules.proofs.judges.left.Tie as tie
 

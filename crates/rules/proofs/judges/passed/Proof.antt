@@ -1,5 +1,5 @@
 use borrow.Author.Needs.{needs}
-use Rattle.rules.specs.Judging.{passed}
+use Rattle.rules_judge.specs.Judging.{passed}
 use Rattle.rules.proofs.judges.passed.Statement.{statement}
 use Rattle.rules.proofs.judges.passed.Tie as tie
 

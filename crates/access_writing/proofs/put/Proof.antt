@@ -1,0 +1,20 @@
+use borrow.Author.Needs.{needs}
+use Rattle.access_writing.proofs.Storing.{putting}
+use Rattle.access_writing.proofs.put.Statement.{statement}
+use Rattle.access_writing.proofs.put.Tie as tie
+
+pub put-spec : {M : Type 1} → statement M
+put-spec =
+    tie.close (tie.spec
+    (λ c. search needs)
+    (λ c κs. search putting)
+    (λ c. search needs)
+    (λ c κs. search needs)
+    (λ c. search needs)
+    (λ c κs. search putting)
+    (λ c. search needs)
+    (λ c. search putting)
+    (λ c. search needs)
+    (λ c. search putting)
+    (λ c. search needs)
+    (λ c. search putting))

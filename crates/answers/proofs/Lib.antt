@@ -1,2 +1,0 @@
--- What the lines of readings need.
-pub mod Within

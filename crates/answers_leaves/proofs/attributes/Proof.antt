@@ -1,0 +1,28 @@
+use mathlib.Core.Path.{_≡_}
+use Prim.Native.Nat.{ℕ, _≤_, _<_, _-_}
+use lib.ListN.{length}
+use borrow.Author.Needs.{needs}
+use Rattle.answers_leaves.proofs.attributes.Statement.{statement}
+use Rattle.answers_leaves.proofs.attributes.Tie as tie
+
+abbrev Inv-loop : tie.InvT-loop
+Inv-loop s from out₀ at i₀ to₀ out i to = (i ≤ length s) × (to ≤ length out) × (64 ≤ length out) × (length out ≡ length out₀) × Unit {0}
+
+abbrev μ-loop : tie.MeasureT-loop
+μ-loop s from out₀ at i₀ to₀ out i to = length s - i
+
+pub attributes-spec : {M : Type 1} → statement M
+attributes-spec =
+    tie.close (tie.spec
+    Inv-loop
+    μ-loop
+    (λ c. search needs)
+    (λ c κs. search needs)
+    (λ c. search needs)
+    (λ c. search needs)
+    (λ c κs. search needs)
+    (λ c κs. search needs)
+    (λ c. search needs)
+    (λ c. search needs)
+    (λ c. search needs)
+    (λ c. search needs))

@@ -1,0 +1,13 @@
+use Rattle.scan.proofs.Tests.{tests, calls}
+use Rattle.cdi.specs.Words.{between}
+use Rattle.gauge_tag.specs.Numbered.{dataAt}
+use Rattle.gauge_elements.proofs.is_data.Statement.{statement}
+use Rattle.gauge_elements.proofs.is_data.Tie as tie
+
+pub is-data-spec : {M : Type 1} → statement M
+unfolding dataAt between
+is-data-spec =
+    tie.close (tie.spec
+    (λ c. search (tests, calls))
+    (λ c. search (tests, calls))
+    (λ c. search (tests, calls)))

@@ -1,2 +1,0 @@
--- The bytes of lines.
-pub mod Bytes

@@ -1,9 +1,0 @@
-use Rattle.locate.proofs.Limits.{limiting}
-use Rattle.locate.proofs.plan.limited.Statement.{statement}
-use Rattle.locate.proofs.plan.limited.Tie as tie
-
-pub limited-spec : {M : Type 1} → statement M
-limited-spec =
-    tie.close (tie.spec
-    (λ c. search limiting)
-    (λ c. search limiting))

@@ -1,0 +1,11 @@
+use borrow.Author.Needs.{needs}
+use Rattle.locate_rows.proofs.Numbers.{reading}
+use Rattle.locate_rows.proofs.rise_at.Statement.{statement}
+use Rattle.locate_rows.proofs.rise_at.Tie as tie
+
+pub rise-at-spec : {M : Type 1} → statement M
+rise-at-spec =
+    tie.close (tie.spec
+    (λ c κs. search needs)
+    (λ c κs. search needs)
+    (λ c. search reading))

@@ -1,0 +1,3 @@
+pub mod Dividing
+pub mod Copies
+pub mod Ways

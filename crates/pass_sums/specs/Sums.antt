@@ -1,0 +1,47 @@
+-- What is summed up along the way: how the state changes at each step of the tree, and what leaving an element writes to the table. The pass
+-- is proved for any such definitions and never looks into them.
+use mathlib.Core.List.{List}
+use mathlib.Core.Bool.{false, cond}
+use Prim.Native.Nat.{ℕ, _≤_}
+use lib.Dec.{eqb}
+use lib.IntN.{ℤ}
+use Rattle.cdi.specs.Pieces.{Attribute, Piece}
+use Rattle.rules_judge.specs.Judging as J
+use Rattle.rules_judge.specs.declared.Least.the-variants.{Nothing}
+use Rattle.gauge_tag.specs.Gauging as G
+use Rattle.gauge_tag.specs.Numbered.{Kept}
+use Rattle.pass_sums.specs.declared.State.{State}
+
+-- how many records a state counts: one at most for each element that was begun
+unfoldable pub recordsOf : State → ℕ
+recordsOf st = st .gauge .records
+
+-- what holds of every state that is met
+unfoldable pub Fit : State → Type 0
+Fit st = Kept (st .gauge) × (st .gauge .records ≤ 4096)
+
+-- the state before the text
+unfoldable pub atFirst : State
+atFirst = record { judge = J.fresh Nothing 0 false; gauge = G.atStart; root = 0 }
+
+-- the state inside an element whose start tag has this place, name and attributes; the first at level 0 is the root
+unfoldable pub enterOf : State → ℕ → List ℕ → List Attribute → State
+enterOf st p n s =
+    record { judge = J.enterOf (st .judge) p n s; gauge = G.enterOf (st .gauge) n; root = cond (eqb (st .gauge .level) 0) p (st .root) }
+
+-- the state behind any other piece
+unfoldable pub otherOf : State → ℕ → Piece → State
+otherOf st p c = record { judge = J.otherOf (st .judge) p c; gauge = st .gauge; root = st .root }
+
+-- the state behind an element, from the one before it and the one at its content's end
+unfoldable pub leaveOf : State → ℕ → List ℕ → List Attribute → State → State
+leaveOf outer p n s inner =
+    record { judge = J.leaveOf (outer .judge) p n s (inner .judge); gauge = G.leaveOf (outer .gauge) p n s (inner .gauge); root = inner .root }
+
+-- what leaving it makes of the table
+unfoldable pub writtenOf : State → ℕ → List ℕ → List Attribute → State → List ℤ → List ℤ
+writtenOf outer p n s inner t = G.written (outer .gauge) p n s (inner .gauge) t
+
+unfoldable pub sums-page : Unit {0}
+unfolding recordsOf Fit atFirst enterOf otherOf leaveOf writtenOf
+sums-page = tt

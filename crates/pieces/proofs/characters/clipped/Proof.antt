@@ -1,6 +1,0 @@
-use Rattle.pieces.proofs.Numbering.{clips}
-use Rattle.pieces.proofs.characters.clipped.Statement.{statement}
-use Rattle.pieces.proofs.characters.clipped.Tie as tie
-
-pub clipped-spec : {M : Type 1} → statement M
-clipped-spec = tie.close (tie.spec (λ c. search clips) (λ c. search clips))

@@ -1,4 +1,0 @@
-pub mod Places
-pub mod Characters
-pub mod Cuts
-pub mod Orders

@@ -1,0 +1,3 @@
+pub mod Attributing
+pub mod Walking
+pub mod Sorting

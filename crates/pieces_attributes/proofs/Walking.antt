@@ -1,0 +1,313 @@
+-- The attributes of a tag, one after another: one step, shared by every loop over them.
+use mathlib.Core.Path.{_≡_, refl, sym, ap, _∙_}
+use mathlib.Core.List.{List, [], _∷_}
+use mathlib.Core.Bool.{Bool, true, false, cond, not}
+use mathlib.Core.Option.{Option, none, some}
+use mathlib.Core.Logic.{⊎-elim}
+use Prim.Native.Nat.{ℕ, zero, suc, _+_, _-_, _≤_, _<_}
+use native.Mathlib.Omega.{arith}
+use borrow.Author.Needs.{needs}
+use borrow.Author.Tests.{eq-eqb, ne-eqb, le-leb, lt-leb}
+use lib.Dec.{eqb, leb}
+use lib.ListN.{length, drop, getD, drop-of-length-le, length-drop}
+use lib.Seq.{drop-drop}
+use Rattle.cdi.specs.Words.{ascii, _>>=_, given, any, after, same, begins, between}
+use Rattle.cdi.specs.Pieces.{Attribute, blank, nameStart, nameAt, attributeAt, attributes, tagEnd, bears, twice}
+use Rattle.cdi.specs.Markup.{refers}
+use Rattle.cdi.specs.Rules.{valueOf}
+use Rattle.scan.proofs.Along.{drop-next}
+use Rattle.scan.proofs.Tests.{lt-or-le, eq-or-ne}
+use Rattle.pieces_cuts.specs.Places.{part, attributeOf, attributeFrom, Next, valueFrom, Valued, closing, Closes}
+use Rattle.pieces_attributes.specs.Orders.{Shows}
+use Rattle.pieces_cuts.specs.declared.places.Attribute.{Attribute as Places}
+
+-- the bytes that are still to pass end at a place
+pub skip-to : (s : List ℕ) (i e : ℕ) → i < e → e ≤ length s → drop (length (drop (i + 1) s) - length (drop e s)) (drop (i + 1) s) ≡ drop e s
+skip-to s i e h k =
+    let there : i + 1 + (length (drop (i + 1) s) - length (drop e s)) ≡ e = omega (arith, length-drop (i + 1) s, length-drop e s) in
+    drop-drop (length (drop (i + 1) s) - length (drop e s)) (i + 1) s ∙ ap (λ (n : ℕ). drop n s) there
+
+attributes-skip : (k : ℕ) (s : List ℕ) → attributes k s ≡ attributes 0 (drop k s)
+unfolding attributes
+attributes-skip zero s = refl
+attributes-skip (suc k) [] = refl
+attributes-skip (suc k) (x ∷ s) = attributes-skip k s
+
+tag-skip : (k : ℕ) (s : List ℕ) → tagEnd k s ≡ tagEnd 0 (drop k s)
+unfolding tagEnd
+tag-skip zero s = refl
+tag-skip (suc k) [] = refl
+tag-skip (suc k) (x ∷ s) = tag-skip k s
+
+value-skip : (n : List ℕ) (k : ℕ) (s : List ℕ) → valueFrom n k s ≡ valueFrom n 0 (drop k s)
+unfolding valueFrom
+value-skip n zero s = refl
+value-skip n (suc k) [] = refl
+value-skip n (suc k) (x ∷ s) = value-skip n k s
+
+-- true is not false
+unlike : {A : Type 0} → true ≡ false → A
+unlike e = let z : _≡_ {A = ℕ} 0 1 = cc in absurd (omega arith)
+
+-- ── one step ──
+
+given-cond : {A B : Type 0} (b : Bool) (o : Option A) (d : B) (f : A → B) → cond b (given o d f) d ≡ given (cond b o none) d f
+given-cond true o d f = refl
+given-cond false o d f = refl
+
+bind-cond : {A B : Type 0} (b : Bool) (o : Option A) (f : A → Option B) → cond b (o >>= f) none ≡ (cond b o none >>= f)
+bind-cond true o f = refl
+bind-cond false o f = refl
+
+behind-blanks : (s : List ℕ) {c : Attribute × List ℕ} → attributeFrom s ≡ some c → attributeAt (after blank s) ≡ some c
+unfolding attributeFrom
+behind-blanks s {c} e = by (blank (getD s 0 0)) e
+  where
+    by : (b : Bool) → cond b (attributeAt (after blank s)) none ≡ some c → attributeAt (after blank s) ≡ some c
+    by true e = e
+    by false e = cc
+
+-- where an attribute begins, no word does whose first byte begins no name
+no-word : (w : ℕ) (ws t : List ℕ) {c : Attribute × List ℕ} → nameStart w ≡ false → attributeAt t ≡ some c → begins (w ∷ ws) t ≡ false
+unfolding attributeAt nameAt begins
+no-word w ws [] n e = refl
+no-word w ws (y ∷ t) {c} n e = ⊎-elim
+    (λ h. let z : nameStart y ≡ false = ap nameStart (sym h) ∙ n in let q : none ≡ some c = rw z at e in cc)
+    (λ h. rw (ne-eqb w y h))
+    (eq-or-ne w y)
+
+right-mark : nameStart 62 ≡ false
+unfolding nameStart between
+right-mark = refl
+
+slash : nameStart 47 ≡ false
+unfolding nameStart between
+slash = refl
+
+module _ (s : List ℕ) (i : ℕ) (h : i < length s) where
+  attributes-step : attributes 0 (drop i s) ≡ given (attributeFrom (drop i s)) [] (λ a. a .0 ∷ attributes (length (drop (i + 1) s) - length (a .1)) (drop (i + 1) s))
+  unfolding attributes attributeFrom
+  attributes-step = rw (drop-next s i h) (given-cond (blank (getD s i 0)) (attributeAt (after blank (getD s i 0 ∷ drop (i + 1) s))) [] (λ a. a .0 ∷ attributes (length (drop (i + 1) s) - length (a .1)) (drop (i + 1) s)))
+
+  tag-step : tagEnd 0 (drop i s) ≡ (let t = after blank (drop i s) in cond (begins (ascii ">") t) (some (false, drop 1 t)) (cond (begins (ascii "/>") t) (some (true, drop 2 t)) (attributeFrom (drop i s) >>= λ a. tagEnd (length (drop (i + 1) s) - length (a .1)) (drop (i + 1) s))))
+  unfolding tagEnd attributeFrom
+  tag-step = rw (drop-next s i h) (rw (bind-cond (blank (getD s i 0)) (attributeAt (after blank (getD s i 0 ∷ drop (i + 1) s))) (λ a. tagEnd (length (drop (i + 1) s) - length (a .1)) (drop (i + 1) s))))
+
+  value-step : (n : List ℕ) → valueFrom n 0 (drop i s) ≡ given (attributeFrom (drop i s)) none (λ a. cond (same n (a .0 .name)) (some (a .0 .value, a .1)) (valueFrom n (length (drop (i + 1) s) - length (a .1)) (drop (i + 1) s)))
+  unfolding valueFrom
+  value-step n = rw (drop-next s i h)
+
+module _ {s : List ℕ} {i : ℕ} {a : Places} (v : Next s i a) where
+  module _ (e : a .end ≡ i) where
+    none-from : attributeFrom (drop i s) ≡ none
+    none-from = v .is ∙ rw (eq-eqb _ _ e)
+
+    pub no-more : attributes 0 (drop i s) ≡ []
+    unfolding attributes
+    no-more = ⊎-elim (λ h. attributes-step s i h ∙ rw none-from) (λ h. rw (drop-of-length-le s h)) (lt-or-le i (length s))
+
+    tag-none : tagEnd 0 (drop i s) ≡ closing (after blank (drop i s))
+    unfolding closing tagEnd after begins
+    tag-none = ⊎-elim (λ h. tag-step s i h ∙ rw none-from) (λ h. rw (drop-of-length-le s h)) (lt-or-le i (length s))
+
+    value-none : (n : List ℕ) → valueFrom n 0 (drop i s) ≡ none
+    unfolding valueFrom
+    value-none n = ⊎-elim (λ h. value-step s i h n ∙ rw none-from) (λ h. rw (drop-of-length-le s h)) (lt-or-le i (length s))
+
+  module _ (e : a .end ≡ i → ⊥) where
+    some-from : attributeFrom (drop i s) ≡ some (attributeOf s a, drop (a .end) s)
+    some-from = v .is ∙ rw (ne-eqb _ _ e)
+
+    pub ahead : i < a .end
+    ahead = let o = v .ordered in omega (arith, o .name, o .behind, o .value, o .close, o .end)
+
+    there : i < length s
+    there = omega (arith, ahead, v .ordered .high)
+
+    skipped : drop (length (drop (i + 1) s) - length (drop (a .end) s)) (drop (i + 1) s) ≡ drop (a .end) s
+    skipped = skip-to s i (a .end) ahead (v .ordered .high)
+
+    pub one-more : attributes 0 (drop i s) ≡ attributeOf s a ∷ attributes 0 (drop (a .end) s)
+    one-more = attributes-step s i there ∙ rw (some-from, attributes-skip, skipped)
+
+    tag-more : tagEnd 0 (drop i s) ≡ tagEnd 0 (drop (a .end) s)
+    tag-more =
+        let t = behind-blanks (drop i s) some-from in
+        tag-step s i there ∙ rw (no-word 62 [] (after blank (drop i s)) right-mark t, no-word 47 (62 ∷ []) (after blank (drop i s)) slash t, some-from, tag-skip, skipped)
+
+    value-more : (n : List ℕ) → valueFrom n 0 (drop i s) ≡ cond (same n (part s (a .name) (a .behind))) (some (part s (a .value) (a .close), drop (a .end) s)) (valueFrom n 0 (drop (a .end) s))
+    value-more n = value-step s i there n ∙ rw (some-from, value-skip, skipped)
+
+    pub less : length s - a .end < length s - i
+    less = omega (arith, ahead, v .ordered .high)
+
+-- ── what is left from here gives what the whole gives ──
+
+pub record Walking {R : Type 0} (f : List Attribute → R) (s : List ℕ) (at i : ℕ) : Type 0 where
+  pub left : f (attributes 0 (drop at s)) ≡ f (attributes 0 (drop i s))
+  pub high : i ≤ length s
+
+pub walk : {R : Type 0} (f : List Attribute → R) (s : List ℕ) (at : ℕ) → at ≤ length s → Walking f s at at
+walk f s at h = record { left = refl; high = h }
+
+module _ {R : Type 0} {f : List Attribute → R} {s : List ℕ} {at i : ℕ} {a : Places} (w : Walking f s at i) (v : Next s i a) where
+  walked : a .end ≡ i → f (attributes 0 (drop at s)) ≡ f []
+  walked e = w .left ∙ ap f (no-more v e)
+
+  walks : (a .end ≡ i → ⊥) → f (attributes 0 (drop at s)) ≡ f (attributeOf s a ∷ attributes 0 (drop (a .end) s))
+  walks e = w .left ∙ ap f (one-more v e)
+
+  onward : (a .end ≡ i → ⊥) → f (attributeOf s a ∷ attributes 0 (drop (a .end) s)) ≡ f (attributes 0 (drop (a .end) s)) → Walking f s at (a .end)
+  onward e q = record { left = walks e ∙ q; high = v .ordered .high }
+
+-- a name looked for
+module _ (n : List ℕ) {s : List ℕ} {at i : ℕ} {a : Places} (w : Walking (any (bears n)) s at i) (v : Next s i a) where
+  pub unnamed : a .end ≡ i → false ≡ any (bears n) (attributes 0 (drop at s))
+  unfolding any
+  unnamed e = sym (walked w v e)
+
+  module _ {r : Bool} (e : a .end ≡ i → ⊥) (k : r ≡ same n (part s (a .name) (a .behind))) where
+    pub is-it : r ≡ true → true ≡ any (bears n) (attributes 0 (drop at s))
+    unfolding any bears
+    is-it x = sym (walks w v e ∙ rw (← k, x))
+
+    pub is-other : r ≡ false → Walking (any (bears n)) s at (a .end)
+    unfolding any bears
+    is-other x = onward w v e (rw (← k, x))
+
+pub ruleset naming = (walk, unnamed, is-it, is-other, less, needs)
+
+-- a name that stands twice
+module _ {s : List ℕ} {at i : ℕ} {a : Places} (w : Walking twice s at i) (v : Next s i a) where
+  pub once : a .end ≡ i → false ≡ twice (attributes 0 (drop at s))
+  unfolding twice
+  once e = sym (walked w v e)
+
+  module _ {r : Bool} (e : a .end ≡ i → ⊥) (k : r ≡ any (bears (part s (a .name) (a .behind))) (attributes 0 (drop (a .end) s))) where
+    pub again : r ≡ true → true ≡ twice (attributes 0 (drop at s))
+    unfolding twice
+    again x = sym (walks w v e ∙ rw (← k, x))
+
+    pub not-again : r ≡ false → Walking twice s at (a .end)
+    unfolding twice
+    not-again x = onward w v e (rw (← k, x))
+
+pub ruleset doubling = (walk, once, again, not-again, less, needs)
+
+-- a reference in a value
+module _ {s : List ℕ} {at i : ℕ} {a : Places} (w : Walking refers s at i) (v : Next s i a) where
+  pub no-reference : a .end ≡ i → false ≡ refers (attributes 0 (drop at s))
+  unfolding refers any
+  no-reference e = sym (walked w v e)
+
+  module _ {r : Bool} (e : a .end ≡ i → ⊥) (k : r ≡ any (eqb 38) (part s (a .value) (a .close))) where
+    pub a-reference : r ≡ true → true ≡ refers (attributes 0 (drop at s))
+    unfolding refers any
+    a-reference x = sym (walks w v e ∙ rw (← k, x))
+
+    pub not-in-this : r ≡ false → Walking refers s at (a .end)
+    unfolding refers any
+    not-in-this x = onward w v e (rw (← k, x))
+
+pub ruleset referring = (walk, no-reference, a-reference, not-in-this, less, needs)
+
+-- the value of a named one
+pub record Valuing (n s : List ℕ) (at i : ℕ) : Type 0 where
+  pub left : valueOf n (attributes 0 (drop at s)) ≡ valueOf n (attributes 0 (drop i s))
+  pub place : valueFrom n 0 (drop at s) ≡ valueFrom n 0 (drop i s)
+  pub high : i ≤ length s
+
+pub value-walk : (n s : List ℕ) (at : ℕ) → at ≤ length s → Valuing n s at at
+value-walk n s at h = record { left = refl; place = refl; high = h }
+
+module _ {n s : List ℕ} {at i : ℕ} {a : Places} (w : Valuing n s at i) (v : Next s i a) where
+  pub valueless : a .end ≡ i → Valued s at n (record { found = false; from = 0; to = 0 })
+  unfolding valueOf
+  valueless e = record {
+    is = w .left ∙ rw (no-more v e);
+    place = w .place ∙ value-none v e n;
+    nothing = λ z. (refl, refl);
+    quote = λ z. unlike (sym z);
+    low = omega arith;
+    high = omega arith;
+  }
+
+  module _ {r : Bool} (e : a .end ≡ i → ⊥) (k : r ≡ same n (part s (a .name) (a .behind))) where
+    pub valued : r ≡ true → Valued s at n (record { found = true; from = a .value; to = a .close })
+    unfolding valueOf
+    valued x = record {
+      is = w .left ∙ rw (one-more v e, ← k, x);
+      place = w .place ∙ value-more v e n ∙ rw (← k, x, v .last e);
+      nothing = λ z. unlike z;
+      quote = λ z. omega (arith, v .last e, v .ordered .high);
+      low = v .ordered .close;
+      high = omega (arith, v .ordered .end, v .ordered .high);
+    }
+
+    pub not-this : r ≡ false → Valuing n s at (a .end)
+    unfolding valueOf
+    not-this x = record {
+      left = w .left ∙ rw (one-more v e, ← k, x);
+      place = w .place ∙ value-more v e n ∙ rw (← k, x);
+      high = v .ordered .high;
+    }
+
+pub ruleset valuing = (value-walk, valueless, valued, not-this, less, needs)
+
+-- the end of the tag
+pub record Closing (s : List ℕ) (at i : ℕ) : Type 0 where
+  pub left : tagEnd 0 (drop at s) ≡ tagEnd 0 (drop i s)
+  pub low : at ≤ i
+  pub high : i ≤ length s
+
+pub close-walk : (s : List ℕ) (at : ℕ) → at ≤ length s → Closing s at at
+close-walk s at h = record { left = refl; low = omega arith; high = h }
+
+module _ {s : List ℕ} {at i : ℕ} {a : Places} (w : Closing s at i) (v : Next s i a) where
+  pub last-one : a .end ≡ i → Closes s at i
+  last-one e = record { is = w .left ∙ tag-none v e; all = no-more v e; low = w .low; high = w .high }
+
+  pub another : (a .end ≡ i → ⊥) → Closing s at (a .end)
+  another e = record { left = w .left ∙ tag-more v e; low = omega (arith, w .low, ahead v e); high = v .ordered .high }
+
+pub ruleset close-loop = (close-walk, last-one, another, less, needs)
+
+-- ── how many attributes ──
+
+-- n attributes stand before i
+pub record Counted (s : List ℕ) (at i n : ℕ) : Type 0 where
+  pub left : length (attributes 0 (drop at s)) ≡ n + length (attributes 0 (drop i s))
+  pub high : i ≤ length s
+
+pub uncounted : (s : List ℕ) (at : ℕ) → at ≤ length s → Counted s at at 0
+uncounted s at h = record { left = omega arith; high = h }
+
+module _ {s : List ℕ} {at i n : ℕ} (w : Counted s at i n) where
+  pub many : 16 ≤ n → true ≡ leb 16 (length (attributes 0 (drop at s)))
+  many h = sym (le-leb 16 (length (attributes 0 (drop at s))) (omega (arith, w .left)))
+
+  module _ {a : Places} (v : Next s i a) where
+    pub few : a .end ≡ i → n < 16 → false ≡ leb 16 (length (attributes 0 (drop at s)))
+    few e h =
+        let z : length (attributes 0 (drop i s)) ≡ 0 = ap length (no-more v e) in
+        sym (lt-leb 16 (length (attributes 0 (drop at s))) (omega (arith, w .left)))
+
+    pub one-counted : (a .end ≡ i → ⊥) → Counted s at (a .end) (n + 1)
+    one-counted e =
+        let z : length (attributes 0 (drop i s)) ≡ suc (length (attributes 0 (drop (a .end) s))) = ap length (one-more v e) in
+        record { left = omega (arith, w .left); high = v .ordered .high }
+
+pub ruleset count-attributes = (uncounted, many, few, one-counted, less, needs)
+
+-- ── a tag without attributes ──
+
+module _ (s : List ℕ) (at : ℕ) {b : ℕ} {r : Bool} (e : b ≡ getD s at 0) (f : r ≡ blank b) where
+  pub blank-there : r ≡ true → false ≡ not (blank (getD s at 0))
+  blank-there g = rw (← e, ← f, g)
+
+  pub no-blank : r ≡ false → true ≡ not (blank (getD s at 0))
+  no-blank g = rw (← e, ← f, g)
+
+  pub bare : r ≡ false → Shows true (attributes 0 (drop at s) ≡ [])
+  unfolding attributes
+  bare g = record { is = λ t. ⊎-elim (λ h. rw (drop-next s at h, ← e, ← f, g)) (λ h. rw (drop-of-length-le s h)) (lt-or-le at (length s)) }

@@ -1,0 +1,213 @@
+// The attributes of a tag, by their places. They begin behind its name.
+
+use pieces_cuts::names::name_end;
+use pieces_cuts::places::Attribute;
+use pieces_cuts::places::Value;
+use scan::Class;
+use scan::begins_at;
+use scan::byte_at;
+use scan::holds;
+use scan::is_blank;
+use scan::same;
+use scan::span;
+ghost use mathlib.Core.Path.{_≡_};
+ghost use mathlib.Core.Bool.{not};
+ghost use mathlib.Core.List.{[]};
+ghost use Prim.Native.Nat.{_≤_};
+ghost use lib.Dec.{leb};
+ghost use lib.ListN.{length, drop, getD};
+ghost use Rattle.cdi.specs.Words.{any};
+ghost use Rattle.cdi.specs.Pieces.{blank, isQuote, attributes, bears};
+ghost use Rattle.cdi.specs.Markup.{refers};
+ghost use Rattle.pieces_cuts.specs.Places.{Quoted, Here, Next, Valued};
+ghost use Rattle.pieces_attributes.specs.Orders.{Shows};
+
+// Does a value stand in this quote?
+fn is_quote(b: u8) -> bool
+    ensures { λ r. ⌜ r ≡ isQuote b ⌝ }
+{
+    if b == 34 {
+        return true;
+    }
+    b == 39
+}
+
+// No attribute: every place is this one.
+fn no_attribute(at: usize) -> Attribute
+    ensures { λ r. ⌜ (r .name ≡ at) × (r .behind ≡ at) × (r .value ≡ at) × (r .close ≡ at) × (r .end ≡ at) ⌝ }
+{
+    Attribute {
+        name: at,
+        behind: at,
+        value: at,
+        close: at,
+        end: at,
+    }
+}
+
+// The place behind the value whose quote stands at this place, or this place where no value does.
+fn value_end(s: &[u8], at: usize) -> usize
+    requires { ⌜ at ≤ length (now s) ⌝ }
+    ensures { λ r. ⌜ Quoted (now (s .entry)) at r ⌝ }
+{
+    if s.len() <= at {
+        return at;
+    }
+    let quote = s[at];
+    if is_quote(quote) {
+        let close = span(s, at + 1, Class::Value(quote));
+        if s.len() <= close {
+            return at;
+        }
+        if s[close] == quote {
+            return close + 1;
+        }
+        return at;
+    }
+    at
+}
+
+// The attribute whose name stands at this place; its end is this place where none does.
+fn attribute_at(s: &[u8], at: usize) -> Attribute
+    requires { ⌜ at ≤ length (now s) ⌝ }
+    ensures { λ r. ⌜ Here (now (s .entry)) at r ⌝ }
+{
+    let behind = name_end(s, at);
+    if behind == at {
+        return no_attribute(at);
+    }
+    let equals = span(s, behind, Class::Blank);
+    if begins_at(s, equals, b"=") {
+        let quote = span(s, equals + 1, Class::Blank);
+        let end = value_end(s, quote);
+        if end < quote + 2 {
+            return no_attribute(at);
+        }
+        return Attribute {
+            name: at,
+            behind,
+            value: quote + 1,
+            close: end - 1,
+            end,
+        };
+    }
+    no_attribute(at)
+}
+
+// The next attribute from this place on, which is behind the tag's name or behind an attribute; its end is this place where there is none.
+pub fn next_attribute(s: &[u8], at: usize) -> Attribute
+    requires { ⌜ at ≤ length (now s) ⌝ }
+    ensures { λ r. ⌜ Next (now (s .entry)) at r ⌝ }
+{
+    let name = span(s, at, Class::Blank);
+    if name == at {
+        return no_attribute(at);
+    }
+    let a = attribute_at(s, name);
+    if a.end == name {
+        return no_attribute(at);
+    }
+    a
+}
+
+// Does no blank stand at this place, which is behind a tag's name? Then the tag has no attributes.
+pub fn is_plainly_bare(s: &[u8], at: usize) -> bool
+    ensures is { λ r. ⌜ r ≡ not (blank (getD (now (s .entry)) at 0)) ⌝ }
+    ensures bare { λ r. ⌜ Shows r (attributes 0 (drop at (now (s .entry))) ≡ []) ⌝ }
+{
+    let b = byte_at(s, at);
+    if is_blank(b) {
+        return false;
+    }
+    true
+}
+
+// Has one of the attributes from this place on that name?
+pub fn is_named(s: &[u8], at: usize, name: &[u8]) -> bool
+    requires { ⌜ at ≤ length (now s) ⌝ }
+    ensures { λ r. ⌜ r ≡ any (bears (now (name .entry))) (attributes 0 (drop at (now (s .entry)))) ⌝ }
+{
+    let mut i = at;
+    loop {
+        let a = next_attribute(s, i);
+        let end = a.end;
+        if end == i {
+            return false;
+        }
+        let from = a.name;
+        let behind = a.behind;
+        if same(name, &s[from..behind]) {
+            return true;
+        }
+        i = end;
+    }
+}
+
+// Are there at least 16 attributes from this place on?
+pub fn has_many(s: &[u8], at: usize) -> bool
+    requires { ⌜ at ≤ length (now s) ⌝ }
+    ensures { λ r. ⌜ r ≡ leb 16 (length (attributes 0 (drop at (now (s .entry))))) ⌝ }
+{
+    let mut i = at;
+    let mut n: usize = 0;
+    while n < 16 {
+        let a = next_attribute(s, i);
+        let end = a.end;
+        if end == i {
+            return false;
+        }
+        n += 1;
+        i = end;
+    }
+    true
+}
+
+// Has one of the attributes from this place on a `&` in its value?
+pub fn has_reference(s: &[u8], at: usize) -> bool
+    requires { ⌜ at ≤ length (now s) ⌝ }
+    ensures { λ r. ⌜ r ≡ refers (attributes 0 (drop at (now (s .entry)))) ⌝ }
+{
+    let mut i = at;
+    loop {
+        let a = next_attribute(s, i);
+        let end = a.end;
+        if end == i {
+            return false;
+        }
+        let value = a.value;
+        let close = a.close;
+        if holds(&s[value..close], b'&') {
+            return true;
+        }
+        i = end;
+    }
+}
+
+// The value of the attribute of that name among those from this place on.
+pub fn value_of(s: &[u8], at: usize, name: &[u8]) -> Value
+    requires { ⌜ at ≤ length (now s) ⌝ }
+    ensures { λ r. ⌜ Valued (now (s .entry)) at (now (name .entry)) r ⌝ }
+{
+    let mut i = at;
+    loop {
+        let a = next_attribute(s, i);
+        let end = a.end;
+        if end == i {
+            return Value {
+                found: false,
+                from: 0,
+                to: 0,
+            };
+        }
+        let from = a.name;
+        let behind = a.behind;
+        if same(name, &s[from..behind]) {
+            return Value {
+                found: true,
+                from: a.value,
+                to: a.close,
+            };
+        }
+        i = end;
+    }
+}

@@ -1,0 +1,14 @@
+use borrow.Author.Needs.{needs}
+use Rattle.pieces_tags.proofs.Tagging.{a-start-tag}
+use Rattle.pieces_tags.proofs.tag.Statement.{statement}
+use Rattle.pieces_tags.proofs.tag.Tie as tie
+
+pub tag-spec : {M : Type 1} → statement M
+tag-spec =
+    tie.close (tie.spec
+    (λ c. search a-start-tag)
+    (λ c κs. search needs)
+    (λ c κs. search needs)
+    (λ c. search a-start-tag)
+    (λ c κs. search needs)
+    (λ c. search a-start-tag))

@@ -1,9 +1,0 @@
-use Rattle.plan.proofs.Settling.{settling}
-use Rattle.plan.proofs.stages.counted.Statement.{statement}
-use Rattle.plan.proofs.stages.counted.Tie as tie
-
-pub counted-spec : {M : Type 1} → statement M
-counted-spec =
-    tie.close (tie.spec
-    (λ c. search settling)
-    (λ c. search settling))

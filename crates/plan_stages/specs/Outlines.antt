@@ -1,0 +1,91 @@
+-- What the planner knows of a text before it looks at the caller's table, and what its answers mean.
+use mathlib.Core.List.{List}
+use mathlib.Core.Bool.{cond}
+use Prim.Native.Nat.{ℕ, _*_, _≤_}
+use lib.Dec.{leb}
+use lib.IntN.{ℤ}
+use lib.ListN.{take}
+use Rattle.cdi.specs.Faults.{fault, Answer, accepted, refused, _andThen_}
+use Rattle.cdi.specs.Tree.{Nodes}
+use Rattle.cdi.specs.Walk.{total}
+use Rattle.cdi.specs.Table.{tableOf, recordsOf}
+use Rattle.cdi.specs.Planning.{Description, Counts, characters, opening, markup, elements, addresses, counting, described}
+use Rattle.rules_judge.specs.declared.Least.{Least}
+use Rattle.rules_judge.specs.declared.Least.the-variants.{Nothing, Is}
+use Rattle.gauge_tag.specs.declared.Leaves.{Leaves}
+use Rattle.gauge_tag.specs.declared.Leaves.the-variants.{Never, At}
+use Rattle.pass_sums.specs.declared.State.{State}
+use Rattle.plan_stages.specs.declared.Planned.{Planned}
+use Rattle.plan_stages.specs.declared.Planned.the-variants.{Accepted, Refused}
+
+-- ── what a text comes to ──
+
+-- the number of records, the number of variables, and the records
+pub record Outline : Type 0 where
+  pub records : ℕ
+  pub variables : ℕ
+  pub rows : List ℤ
+
+abbrev pub outline : ℕ → ℕ → List ℤ → Outline
+outline n v r = record { records = n; variables = v; rows = r }
+
+unfoldable pub outlined : Description → Answer Outline
+outlined d = accepted (outline (recordsOf (d .segments)) (total (d .segments)) (tableOf (d .segments)))
+
+-- stages 1 to 12 of a text
+unfoldable pub outlineOf : List ℕ → Answer Outline
+outlineOf b = described b andThen outlined
+
+-- stages 2 to 12 of its content
+unfoldable pub ofContent : List ℕ → Answer Outline
+ofContent c = characters c andThen opening andThen markup andThen elements andThen addresses andThen counting andThen outlined
+
+-- stages 4 to 12
+unfoldable pub ofMarkup : List ℕ → Answer Outline
+ofMarkup c = markup c andThen elements andThen addresses andThen counting andThen outlined
+
+-- stages 8 to 12 of its tree
+unfoldable pub ofTree : Nodes → Answer Outline
+ofTree u = elements u andThen addresses andThen counting andThen outlined
+
+-- ── what the code says ──
+
+-- an answer, by the rows that were filled with it
+unfoldable pub saidOf : Planned → List ℤ → Answer Outline
+saidOf (Accepted n v) t = accepted (outline n v (take (8 * n) t))
+saidOf (Refused n p) t = refused (fault n p)
+
+-- records that are counted are at most 4,096
+unfoldable pub Few : Planned → Type 0
+Few (Accepted n v) = n ≤ 4096
+Few (Refused n p) = Unit
+
+-- an answer
+unfoldable pub answerOf : Planned → Answer Counts
+answerOf (Accepted n v) = accepted (record { records = n; variables = v })
+answerOf (Refused n p) = refused (fault n p)
+
+-- 12
+unfoldable pub countedBy : ℕ → ℕ → ℕ → Planned
+countedBy n v root = cond (leb v 1000000) (Accepted n v) (Refused 12 root)
+
+-- 11, or else what comes next
+unfoldable pub addressedBy : Leaves → Planned → Planned
+addressedBy (At p) r = Refused 11 p
+addressedBy Never r = r
+
+-- 8 to 10, or else what comes next
+unfoldable pub ruledBy : Least → Planned → Planned
+ruledBy (Is f) r = Refused (f .number) (f .place)
+ruledBy Nothing r = r
+
+unfoldable pub settledOf : State → Planned
+settledOf st = ruledBy (st .judge .least) (addressedBy (st .gauge .leaves) (countedBy (st .gauge .records) (st .gauge .total) (st .root)))
+
+-- 13, by the table's length
+unfoldable pub putOf : ℕ → ℕ → ℕ → Planned
+putOf n v l = cond (leb (8 * n) l) (Accepted n v) (Refused 13 0)
+
+unfoldable pub outlines-page : Unit {0}
+unfolding outlined outlineOf ofContent ofMarkup ofTree saidOf Few answerOf countedBy addressedBy ruledBy settledOf putOf
+outlines-page = tt

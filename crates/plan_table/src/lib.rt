@@ -1,0 +1,42 @@
+// Stage 13: the records go to the front of the lent table, where they fit.
+
+use plan_stages::Planned;
+ghost use mathlib.Core.Path.{_≡_};
+ghost use mathlib.Core.Bool.{cond};
+ghost use Prim.Native.Nat.{_*_, _≤_};
+ghost use lib.Dec.{leb};
+ghost use lib.ListN.{length, take};
+ghost use Rattle.cdi.specs.Planning.{placed};
+ghost use Rattle.plan_stages.specs.Outlines.{putOf};
+
+// The numbers of one record.
+pub const FIELDS: usize = 8;
+
+// Puts these numbers at the front of the table.
+fn copy(rows: &[i64], table: &mut [i64])
+    requires { ⌜ length (now rows) ≤ length (now table) ⌝ }
+    ensures { λ _. ⌜ now (table .exit) ≡ placed (now (rows .entry)) (now (table .entry)) ⌝ }
+{
+    let mut i = 0;
+    while i < rows.len() {
+        table[i] = rows[i];
+        i += 1;
+    }
+}
+
+// Stage 13: the rows of so many records go to the front of the table, where they fit.
+pub fn put(rows: &[i64], records: usize, variables: u64, table: &mut [i64]) -> Planned
+    requires { ⌜ (records ≤ 4096) × (32768 ≤ length (now rows)) ⌝ }
+    ensures answer { λ r. ⌜ r ≡ putOf records variables (length (now (table .entry))) ⌝ }
+    ensures after { λ _. ⌜ now (table .exit) ≡ cond (leb (8 * records) (length (now (table .entry)))) (placed (take (8 * records) (now (rows .entry))) (now (table .entry))) (now (table .entry)) ⌝ }
+{
+    let size = FIELDS * records;
+    if table.len() < size {
+        return Planned::Refused {
+            number: 13,
+            place: 0,
+        };
+    }
+    copy(&rows[0..size], table);
+    Planned::Accepted { records, variables }
+}

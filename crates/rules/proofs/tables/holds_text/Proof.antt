@@ -1,8 +1,0 @@
-use Rattle.rules.proofs.Tabled.{text-rows}
-use Rattle.rules.proofs.tables.holds_text.Statement.{statement}
-use Rattle.rules.proofs.tables.holds_text.Tie as tie
-
-pub holds-text-spec : {M : Type 1} → statement M
-holds-text-spec =
-    tie.close (tie.spec
-    (λ c. search text-rows))

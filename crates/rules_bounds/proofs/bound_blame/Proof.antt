@@ -1,0 +1,20 @@
+use borrow.Author.Needs.{needs}
+use Rattle.rules_bounds.proofs.Storing.{bound-faults}
+use Rattle.rules_bounds.proofs.bound_blame.Statement.{statement}
+use Rattle.rules_bounds.proofs.bound_blame.Tie as tie
+
+pub bound-blame-spec : {M : Type 1} → statement M
+bound-blame-spec =
+    tie.close (tie.spec
+    (λ c κs. search needs)
+    (λ c κs. search needs)
+    (λ c κs. search needs)
+    (λ c κs. search needs)
+    (λ c κs. search needs)
+    (λ c κs. search needs)
+    (λ c κs. search needs)
+    (λ c κs. search needs)
+    (λ c κs. search needs)
+    (λ c κs. search needs)
+    (λ c κs. search needs)
+    (λ c. search bound-faults))

@@ -1,0 +1,12 @@
+use borrow.Author.Needs.{needs}
+use Rattle.rules_bounds.proofs.Storing.{ordering}
+use Rattle.rules_bounds.proofs.is_in_order.Statement.{statement}
+use Rattle.rules_bounds.proofs.is_in_order.Tie as tie
+
+pub is-in-order-spec : {M : Type 1} → statement M
+is-in-order-spec =
+    tie.close (tie.spec
+    (λ c κs. search needs)
+    (λ c. search ordering)
+    (λ c. search needs)
+    (λ c. search needs))

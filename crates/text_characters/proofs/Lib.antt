@@ -1,0 +1,2 @@
+-- The laws of characters.
+pub mod Characters

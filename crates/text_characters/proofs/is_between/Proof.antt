@@ -1,0 +1,11 @@
+use Rattle.scan.proofs.Tests.{tests, calls}
+use Rattle.cdi.specs.Words.{between}
+use Rattle.text_characters.proofs.is_between.Statement.{statement}
+use Rattle.text_characters.proofs.is_between.Tie as tie
+
+pub is-between-spec : {M : Type 1} → statement M
+unfolding between
+is-between-spec =
+    tie.close (tie.spec
+    (λ c. search (tests, calls))
+    (λ c. search (tests, calls)))
