@@ -66,7 +66,7 @@ fn read_elements(content: &[u8], rows: &mut [i64]) -> Planned
 }
 
 // Stages 2 to 12.
-pub fn read_content(content: &[u8], rows: &mut [i64]) -> Planned
+fn read_content(content: &[u8], rows: &mut [i64]) -> Planned
     requires { ⌜ (length (now content) ≤ 65535) × (32768 ≤ length (now rows)) ⌝ }
     ensures said { λ r. ⌜ saidOf r (now (rows .exit)) ≡ ofContent (now (content .entry)) ⌝ }
     ensures few { λ r. ⌜ Few r ⌝ }
