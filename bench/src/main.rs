@@ -2,6 +2,7 @@
 
 mod accessing;
 mod answers;
+mod characters;
 mod plain;
 mod planner;
 mod planning;
@@ -132,7 +133,7 @@ fn tell(what: &str, each: usize, (proved, plain): (f64, f64)) {
 }
 
 fn main() {
-    if planning::asked() || accessing::asked() || print::asked() {
+    if planning::asked() || accessing::asked() || characters::asked() || print::asked() {
         return;
     }
     let wide = || (0..40).map(|k| Item::Int(k % 3, [1, 2, 4, 8][k as usize % 4])).collect::<Vec<_>>();

@@ -2,4 +2,5 @@
 pub mod Told
 pub mod Plans
 pub mod Readings
+pub mod Ended
 pub mod Once

@@ -1,21 +1,39 @@
 -- One answer: any two outcomes that a function's contract allows are equal. (A slice that isn't lent for writing is only read.)
 use mathlib.Core.Path.{_≡_}
 use mathlib.Core.List.{List}
+use mathlib.Core.Bool.{Bool}
 use Prim.Native.Nat.{ℕ}
 use lib.ListN.{length}
 use lib.IntN.{ℤ}
+use Rattle.cdi.specs.Text.{badCharacter, isUtf8}
 use Rattle.cdi.specs.Walk.{walk}
 use Rattle.cdi.specs.Plans.{segmentsOf, variableOf, locating}
 use Rattle.cdi.specs.Planning.{planned, tableAfter}
 use Rattle.cdi.specs.Access.{Window, Value, written, windowAfter, read}
+use Rattle.text.specs.Answers.{ending}
 use Rattle.locate.proofs.Once.{once}
 use Rattle.listing.specs.Batch.{batch, listed}
 use Rattle.listing.proofs.Once.{list-once}
 use Rattle.access_sought.specs.Told.{knownOf}
+use Rattle.exports.specs.Contents.{placeIn, placeOr, badIn}
 use Rattle.exports.specs.Addresses.{addressIn}
 use Rattle.exports.specs.Refusals.{numberIn}
 use Rattle.exports.specs.Plannings.{firstIn, variablesIn}
 use Rattle.exports.specs.Accesses.{endKnown, magnitudeIn}
+
+-- the check of a text
+module _ (s : List ℕ) where
+  pub timed-end-once : (r q : ℕ) → r ≡ placeIn (ending s) → q ≡ placeIn (ending s) → r ≡ q
+  timed-end-once r q e f = once e f
+
+  pub timed-characters-once : (r q : ℕ) → r ≡ placeOr (length s) (badCharacter s) → q ≡ placeOr (length s) (badCharacter s) → r ≡ q
+  timed-characters-once r q e f = once e f
+
+  pub timed-utf8-once : (r q : Bool) → r ≡ isUtf8 s → q ≡ isUtf8 s → r ≡ q
+  timed-utf8-once r q e f = once e f
+
+  pub timed-content-once : (r q : ℕ) → r ≡ badIn s (ending s) → q ≡ badIn s (ending s) → r ≡ q
+  timed-content-once r q e f = once e f
 
 pub timed-locate-once : (t : List ℤ) (n r s : ℕ) → r ≡ addressIn (locating t n) → s ≡ addressIn (locating t n) → r ≡ s
 timed-locate-once t n r s p q = once p q

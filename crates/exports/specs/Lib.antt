@@ -3,3 +3,4 @@ pub mod Addresses
 pub mod Refusals
 pub mod Plannings
 pub mod Accesses
+pub mod Contents

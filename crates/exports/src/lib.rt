@@ -1,7 +1,8 @@
-// The locator, listing, planner, writing and reading under C names, so that bench/ can time them. No part of the library.
+// The check of a text, the locator, listing, planner, writing and reading under C names, so that bench/ can time them. No part of the library.
 
 pub mod accessing; // writing and reading
 pub mod planning; // the planner
+pub mod texts; // the end of the content and its characters
 
 use locate::Located;
 ghost use mathlib.Core.Path.{_≡_};

@@ -3,27 +3,26 @@ use mathlib.Core.Path.{_≡_, refl, sym, ap, _∙_}
 use mathlib.Core.List.{List, []}
 use mathlib.Core.Bool.{Bool, true, false, cond}
 use mathlib.Core.Option.{Option, none, some}
-use Prim.Native.Nat.{ℕ, _-_, _≤_, _<_, min}
+use Prim.Native.Nat.{ℕ, _-_, _≤_}
 use native.Mathlib.Omega.{arith}
 use borrow.Author.Needs.{needs}
 use lib.Dec.{leb}
 use lib.IntN.{ℤ}
-use lib.ListN.{length, take, drop, length-take}
-use Rattle.cdi.specs.Words.{given, begins}
+use lib.ListN.{length, take, drop}
+use Rattle.cdi.specs.Words.{begins}
 use Rattle.cdi.specs.Faults.{Fault, fault, least, Answer, accepted, refused, _andThen_, stage}
-use Rattle.cdi.specs.Text.{endOf, badCharacter, firstLine}
+use Rattle.cdi.specs.Text.{badCharacter, firstLine}
 use Rattle.cdi.specs.Markup.{reading, markupFaults}
 use Rattle.cdi.specs.Tree.{tree}
 use Rattle.cdi.specs.Planning.{ending, characters, opening, cut, markup, described}
 use Rattle.cdi.proofs.Quiet.{impossible}
-use Rattle.cdi.proofs.Stages.{first-zero}
 use Rattle.scan.proofs.Words.{begun-length}
 use Rattle.text.specs.Answers as T
 use Rattle.text.specs.declared.End.{End}
 use Rattle.text.specs.declared.End.the-variants as end
 use Rattle.text.specs.declared.Place.{Place}
 use Rattle.text.specs.declared.Place.the-variants as place
-use Rattle.text.proofs.Ends.{content-of}
+use Rattle.text.proofs.Ends.{content-of, end-inside, end-early, run-plain, run-inside}
 use Rattle.rules_judge.specs.declared.Least.{Least}
 use Rattle.rules_judge.specs.declared.Least.the-variants.{Nothing, Is}
 use Rattle.gauge_tag.specs.declared.Leaves.{Leaves}
@@ -142,22 +141,4 @@ module _ (b : List ℕ) {e : End} (a : T.endAnswer e ≡ T.ending b) where
   unfolding outlineOf described ofContent T.endAnswer
   ended t {z} r q k = let l : z - 0 ≡ z = omega arith in k ∙ rw (content-of b, sym a ∙ ap T.endAnswer q, l)
 
-  found : {z : ℕ} → e ≡ end.At z → endOf b ≡ some z
-  unfolding T.ending T.endAnswer
-  found {z} q = by (endOf b) (sym a ∙ ap T.endAnswer q)
-    where
-      by : (o : Option ℕ) → given o (refused (fault 1 (min (length b) 65536))) accepted ≡ accepted z → o ≡ some z
-      by none k = cc
-      by (some x) k = cc
-
-  end-below : {z : ℕ} → e ≡ end.At z → z < length (take 65536 b)
-  unfolding endOf
-  end-below {z} q = omega (arith, first-zero 0 (take 65536 b) z (found q))
-
-  pub end-inside : {z : ℕ} → e ≡ end.At z → z ≤ length b
-  end-inside q = omega (arith, end-below q, length-take 65536 b)
-
-  pub end-early : {z : ℕ} → e ≡ end.At z → length (take (z - 0) (drop 0 b)) ≤ 65535
-  end-early {z} q = omega (arith, end-below q, length-take 65536 b, length-take (z - 0) b)
-
-pub ruleset reading-text = (endless, ended, end-inside, end-early, few-refused, needs)
+pub ruleset reading-text = (endless, ended, end-inside, end-early, run-plain, run-inside, few-refused, needs)

@@ -9,13 +9,14 @@ use plan_stages::settled;
 use plan_table::put;
 use text::End;
 use text::Place;
-use text::bad_character;
-use text::content_end;
+use text::bad_behind;
+use text::examine;
 use text::is_opening;
 ghost use mathlib.Core.Path.{_≡_};
 ghost use Prim.Native.Nat.{_≤_};
 ghost use lib.ListN.{length};
 ghost use Rattle.cdi.specs.Planning.{planned, tableAfter};
+ghost use Rattle.text_runs.specs.Runs.{plain, AllOf};
 ghost use Rattle.plan_stages.specs.Outlines.{outlineOf, saidOf, Few, answerOf, ofContent, ofMarkup};
 
 // The numbers of as many records as a description can have.
@@ -30,10 +31,11 @@ pub fn outline(text: &[u8], rows: &mut [i64]) -> Planned
     ensures said { λ r. ⌜ saidOf r (now (rows .exit)) ≡ outlineOf (now (text .entry)) ⌝ }
     ensures few { λ r. ⌜ Few r ⌝ }
 {
-    let ends = content_end(text);
+    let told = examine(text);
+    let ends = told.end;
     match ends {
         End::Missing(place) => Planned::Refused { number: 1, place },
-        End::At(end) => read_content(&text[0..end], rows),
+        End::At(end) => read_content(&text[0..end], told.run, rows),
     }
 }
 
@@ -65,13 +67,13 @@ fn read_elements(content: &[u8], rows: &mut [i64]) -> Planned
     }
 }
 
-// Stages 2 to 12.
-fn read_content(content: &[u8], rows: &mut [i64]) -> Planned
-    requires { ⌜ (length (now content) ≤ 65535) × (32768 ≤ length (now rows)) ⌝ }
+// Stages 2 to 12, of content whose bytes before this place are characters by themselves.
+fn read_content(content: &[u8], run: usize, rows: &mut [i64]) -> Planned
+    requires { ⌜ (length (now content) ≤ 65535) × (32768 ≤ length (now rows)) × (run ≤ length (now content)) × AllOf plain (now content) 0 run ⌝ }
     ensures said { λ r. ⌜ saidOf r (now (rows .exit)) ≡ ofContent (now (content .entry)) ⌝ }
     ensures few { λ r. ⌜ Few r ⌝ }
 {
-    let bad = bad_character(content);
+    let bad = bad_behind(content, run);
     match bad {
         Place::At(place) => Planned::Refused { number: 2, place },
         Place::Nothing => {

@@ -3,13 +3,14 @@ use mathlib.Core.Path.{_≡_, sym, ap, subst, _∙_}
 use mathlib.Core.List.{List, [], _∷_}
 use mathlib.Core.Bool.{Bool, true, false, cond, _&&_}
 use mathlib.Core.Option.{Option, none, some}
-use Prim.Native.Nat.{ℕ, _+_, _*_, _≤_, _<_}
+use Prim.Native.Nat.{ℕ, _+_, _-_, _*_, _≤_, _<_}
 use native.Mathlib.Omega.{arith}
 use borrow.Author.Needs.{needs}
+use borrow.Author.Tests.{lt-ltb, le-ltb}
 use lib.Dec.{leb, ltb}
 use lib.ListN.{length, drop, getD, drop-of-length-le}
 use lib.Seq.{getD-drop}
-use Rattle.cdi.specs.Text.{Character as Decoded, scalar, sequence, characterAt}
+use Rattle.cdi.specs.Text.{Character as Decoded, continues, scalar, sequence, characterAt}
 use Rattle.scan.proofs.Along.{drop-next}
 use Rattle.text_characters.specs.Answers.{characterOf, widthIn}
 use Rattle.text_characters.specs.declared.Character.{Character}
@@ -22,6 +23,9 @@ pub and-false : (x y : Bool) → x ≡ false → (x && y) ≡ false
 and-false x y e = rw e
 
 pub ruleset ands = (and-true, and-false)
+
+pub both-tests : (a : Bool) {t u : Bool} → t ≡ u → (a && t) ≡ (a && u)
+both-tests a e = rw e
 
 -- ── a sequence of several bytes ──
 
@@ -53,6 +57,38 @@ module _ (r : Character) {x y : ℕ} (a b smallest w : ℕ) (f : x ≡ a) (g : y
     four d p o e k h = h ∙ rw (o, m, g, f, ← e, k)
 
 pub ruleset several = (unmet, first-unmet, second-unmet, two, three, four, needs)
+
+-- ── by the first byte ──
+
+module _ (r : Character) (a b c d : ℕ) where
+  pub of-one : a < 128 → characterOf r ≡ sequence true a 0 1 → characterOf r ≡ characterAt (a ∷ b ∷ c ∷ d ∷ [])
+  unfolding characterAt
+  of-one h e = e ∙ sym (rw (lt-ltb a 128 h))
+
+  pub of-two-bytes : 192 ≤ a → a < 224 → characterOf r ≡ sequence (continues b) ((a - 192) * 64 + (b - 128)) 128 2 → characterOf r ≡ characterAt (a ∷ b ∷ c ∷ d ∷ [])
+  unfolding characterAt
+  of-two-bytes l h e = e ∙ sym (rw (le-ltb a 128 (omega arith), le-ltb a 192 l, lt-ltb a 224 h))
+
+  module _ (l : 224 ≤ a) where
+    pub of-three-bytes : a < 240 → characterOf r ≡ sequence (continues b && continues c) (((a - 224) * 64 + (b - 128)) * 64 + (c - 128)) 2048 3 → characterOf r ≡ characterAt (a ∷ b ∷ c ∷ d ∷ [])
+    unfolding characterAt
+    of-three-bytes h e = e ∙ sym (rw (le-ltb a 128 (omega arith), le-ltb a 192 (omega arith), le-ltb a 224 l, lt-ltb a 240 h))
+
+    module _ (m : 240 ≤ a) where
+      pub of-four-bytes : a < 248 → characterOf r ≡ sequence (continues b && continues c && continues d) ((((a - 240) * 64 + (b - 128)) * 64 + (c - 128)) * 64 + (d - 128)) 65536 4 → characterOf r ≡ characterAt (a ∷ b ∷ c ∷ d ∷ [])
+      unfolding characterAt
+      of-four-bytes h e = e ∙ sym (rw (le-ltb a 128 (omega arith), le-ltb a 192 (omega arith), le-ltb a 224 l, le-ltb a 240 m, lt-ltb a 248 h))
+
+module _ (a b c d : ℕ) where
+  pub stray-byte : 128 ≤ a → a < 192 → characterOf Not ≡ characterAt (a ∷ b ∷ c ∷ d ∷ [])
+  unfolding characterAt characterOf
+  stray-byte l h = sym (rw (le-ltb a 128 l, lt-ltb a 192 h))
+
+  pub no-first-byte : 248 ≤ a → characterOf Not ≡ characterAt (a ∷ b ∷ c ∷ d ∷ [])
+  unfolding characterAt characterOf
+  no-first-byte h = sym (rw (le-ltb a 128 (omega arith), le-ltb a 192 (omega arith), le-ltb a 224 (omega arith), le-ltb a 240 (omega arith), le-ltb a 248 h))
+
+pub ruleset first-bytes = (of-one, of-two-bytes, of-three-bytes, of-four-bytes, stray-byte, no-first-byte, needs)
 
 -- ── the character at a place ──
 

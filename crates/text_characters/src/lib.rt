@@ -4,6 +4,7 @@ ghost use mathlib.Core.Path.{_≡_};
 ghost use mathlib.Core.Bool.{true, _&&_};
 ghost use mathlib.Core.List.{[], _∷_};
 ghost use Prim.Native.Nat.{_+_, _*_, _-_, _≤_};
+ghost use lib.Dec.{leb};
 ghost use lib.ListN.{drop};
 ghost use Rattle.cdi.specs.Words.{between};
 ghost use Rattle.cdi.specs.Text.{continues, scalar, sequence as sequenceOf, characterAt, isChar};
@@ -15,7 +16,7 @@ pub enum Character {
     Not,
 }
 
-fn is_between(lo: u32, hi: u32, c: u32) -> bool
+pub fn is_between(lo: u32, hi: u32, c: u32) -> bool
     ensures { λ r. ⌜ r ≡ between lo hi c ⌝ }
 {
     if c < lo {
@@ -84,14 +85,18 @@ fn joined(c: u32, b: u8) -> u32
     c * 64 + above(b, 128)
 }
 
+// Is it a character's number, and does no shorter sequence hold it?
+fn is_sequence(c: u32, smallest: u32) -> bool
+    ensures { λ r. ⌜ r ≡ (leb smallest c && scalar c) ⌝ }
+{
+    (smallest <= c) & is_scalar(c)
+}
+
 // The character of that number, if it is one and no shorter sequence holds it.
 fn sequence(c: u32, smallest: u32, width: usize) -> Character
     ensures { λ r. ⌜ characterOf r ≡ sequenceOf true c smallest width ⌝ }
 {
-    if c < smallest {
-        return Character::Not;
-    }
-    if is_scalar(c) {
+    if is_sequence(c, smallest) {
         return Character::Is(c, width);
     }
     Character::Not
@@ -146,13 +151,13 @@ fn of_four(a: u8, b: u8, c: u8, d: u8) -> Character
 fn of_bytes(a: u8, b: u8, c: u8, d: u8) -> Character
     ensures { λ r. ⌜ characterOf r ≡ characterAt (a ∷ b ∷ c ∷ d ∷ []) ⌝ }
 {
-    if a < 128 {
-        return sequence(a as u32, 0, 1);
-    }
-    if a < 192 {
-        return Character::Not;
-    }
     if a < 224 {
+        if a < 128 {
+            return sequence(a as u32, 0, 1);
+        }
+        if a < 192 {
+            return Character::Not;
+        }
         return of_two(a, b);
     }
     if a < 240 {
@@ -164,12 +169,15 @@ fn of_bytes(a: u8, b: u8, c: u8, d: u8) -> Character
     Character::Not
 }
 
-// The character that stands at a place.
+// The character that stands at a place. Where four bytes are left, none is asked whether it is there.
 pub fn character_at(s: &[u8], at: usize) -> Character
     ensures { λ r. ⌜ characterOf r ≡ characterAt (drop at (now (s .entry))) ⌝ }
 {
     if s.len() <= at {
         return Character::Not;
+    }
+    if 4 <= s.len() - at {
+        return of_bytes(s[at], s[at + 1], s[at + 2], s[at + 3]);
     }
     let b = scan::byte_at(s, at + 1);
     let c = scan::byte_at(s, at + 2);

@@ -182,6 +182,46 @@ fn characters(random: &mut Random) -> Leaf {
     Leaf::Characters(bytes)
 }
 
+/// The places of the first fault that every stream of such cases goes through.
+const FAULT_PLACES: u64 = 41;
+
+/// Bytes that begin no allowed character.
+const FAULTS: [&[u8]; 12] = [
+    b"\r",
+    b"\x00",
+    b"\x1f",
+    b"\x80",
+    b"\xbf",
+    b"\xc3",
+    b"\xff",
+    b"\xc1\xbf",
+    b"\xe0\x9f\xbf",
+    b"\xed\xa0\x80",
+    b"\xef\xbf\xbe",
+    b"\xf4\x90\x80\x80",
+];
+
+/// A run of one-byte characters, a fault, and some more: the fault's place goes up by one with each turn, and the kind of fault with each round.
+fn faulty_run(random: &mut Random, turn: u64) -> Leaf {
+    let place = turn % FAULT_PLACES;
+    let fault = FAULTS[(turn / FAULT_PLACES) as usize % FAULTS.len()];
+    let mut bytes: Vec<u8> = (0..place).map(|_| random.pick(b"abz <&\t\n\x20\x7e\x7f")).collect();
+    bytes.extend(fault);
+    bytes.extend((0..random.below(20)).map(|_| random.pick(b"abc <\n\x80\xc3\xa4")));
+    Leaf::Characters(bytes)
+}
+
+/// A long run with a character of several bytes somewhere, and at times a fault at its end.
+fn long_run(random: &mut Random) -> Leaf {
+    let mut bytes: Vec<u8> = (0..random.below(90)).map(|_| random.pick(b"abz <\t\n\x7f")).collect();
+    bytes.extend(random.pick(&["ä", "€", "\u{10348}", ""]).bytes());
+    bytes.extend((0..random.below(30)).map(|_| random.pick(b"abz <\t\n\x7f")));
+    if random.chance(40) {
+        bytes.extend(FAULTS[random.below(FAULTS.len())]);
+    }
+    Leaf::Characters(bytes)
+}
+
 fn ending(random: &mut Random, index: u64) -> Leaf {
     let edge = [LAST_END - 1, LAST_END, LAST_END + 1, LAST_END + 2];
     let length = if index % 50 == 0 { random.pick(&edge) } else { random.below(40) };
@@ -211,10 +251,36 @@ fn some_name(random: &mut Random) -> Leaf {
 pub fn case(random: &mut Random, index: u64) -> Case {
     Case::Leaf(match index % 10 {
         0 => digits(random),
-        1 => characters(random),
+        1 => match index / 10 % 4 {
+            0 => faulty_run(random, index / 40),
+            1 => long_run(random),
+            _ => characters(random),
+        },
         2 => ending(random, index / 10),
         3 => formatting(random),
         4 => some_name(random),
         _ => piece(random),
     })
+}
+
+#[cfg(test)]
+mod tests {
+    use super::*;
+    use crate::text::characters as allowed;
+
+    /// The stream of the gate has a first fault at every place from 0 to 40.
+    #[test]
+    fn every_place_has_a_first_fault() {
+        let mut seen = [0; FAULT_PLACES as usize];
+        for index in 0..80_000 {
+            if let Case::Leaf(Leaf::Characters(bytes)) = case(&mut Random::of_case(1, index), index) {
+                if let Err(refusal) = allowed(&bytes) {
+                    if let Some(count) = seen.get_mut(refusal.place as usize) {
+                        *count += 1;
+                    }
+                }
+            }
+        }
+        assert!(seen.iter().all(|&count| count >= 20), "{seen:?}");
+    }
 }

@@ -9,7 +9,6 @@ pub sequence-spec : {M : Type 1} → statement M
 unfolding sequence characterOf
 sequence-spec =
     tie.close (tie.spec
-    (λ c. search (tests, calls))
     (λ c κs. search needs)
     (λ c. search (tests, calls))
     (λ c. search (tests, calls)))

@@ -1,0 +1,2 @@
+-- The laws of runs.
+pub mod Running
