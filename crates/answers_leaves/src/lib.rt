@@ -140,6 +140,25 @@ fn start(s: &[u8], cut: Cut, out: &mut [u8], at: usize) -> usize
     attributes(s, cut.behind, out, to)
 }
 
+// A word and a number.
+fn told(out: &mut [u8], at: usize, word: &[u8], n: u64) -> usize
+    requires { ⌜ (at ≤ length (now out)) × (64 ≤ length (now out)) ⌝ }
+    ensures { λ r. ⌜ r ≤ length (now (out .entry)) ⌝ }
+{
+    let to = put_all(out, at, word);
+    put_next(out, to, n)
+}
+
+// An end tag: its name's places and its end.
+fn finish(cut: Cut, out: &mut [u8], at: usize) -> usize
+    requires { ⌜ (at ≤ length (now out)) × (64 ≤ length (now out)) ⌝ }
+    ensures { λ r. ⌜ r ≤ length (now (out .entry)) ⌝ }
+{
+    let to = put_all(out, at, b"finish");
+    let next = both(out, to, cut.name, cut.behind);
+    put_next(out, next, cut.end as u64)
+}
+
 // The piece at a place of the content.
 pub fn piece(s: &[u8], place: usize, out: &mut [u8], at: usize) -> usize
     requires { ⌜ (place < length (now s)) × (at ≤ length (now out)) × (64 ≤ length (now out)) ⌝ }
@@ -147,26 +166,16 @@ pub fn piece(s: &[u8], place: usize, out: &mut [u8], at: usize) -> usize
 {
     let cut = piece_at(s, place);
     let kind = cut.kind;
+    let end = cut.end as u64;
     match kind {
         Kind::Start => start(s, cut, out, at),
-        Kind::Finish => {
-            let to = put_all(out, at, b"finish");
-            let next = both(out, to, cut.name, cut.behind);
-            put_next(out, next, cut.end as u64)
-        }
-        Kind::Remark => {
-            let to = put_all(out, at, b"remark");
-            put_next(out, to, cut.end as u64)
-        }
+        Kind::Finish => finish(cut, out, at),
+        Kind::Remark => told(out, at, b"remark", end),
         Kind::Refer => {
-            let to = put_all(out, at, b"refer");
-            let next = put_next(out, to, cut.code as u64);
-            put_next(out, next, cut.end as u64)
+            let to = told(out, at, b"refer", cut.code as u64);
+            put_next(out, to, end)
         }
-        Kind::Text => {
-            let to = put_all(out, at, b"text");
-            put_next(out, to, cut.end as u64)
-        }
+        Kind::Text => told(out, at, b"text", end),
         Kind::Malformed => put_all(out, at, b"malformed"),
         Kind::Unsupported => put_all(out, at, b"unsupported"),
     }
