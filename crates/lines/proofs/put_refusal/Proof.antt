@@ -1,5 +1,5 @@
 use borrow.Author.Needs.{needs}
-use Rattle.lines_words.proofs.Putting.{parts}
+use Rattle.lines_words.proofs.Putting.{refusal-put}
 use Rattle.lines.proofs.put_refusal.Statement.{statement}
 use Rattle.lines.proofs.put_refusal.Tie as tie
 
@@ -15,4 +15,12 @@ put-refusal-spec =
     (λ c. search needs)
     (λ c κs. search needs)
     (λ c. search needs)
-    (λ c. search parts))
+    (λ c.
+    let third = c .before .before in
+    let place = third .before .before .before .before .before in
+    let second = place .before .before .before .before in
+    let number = second .before .before .before .before .before in
+    let first = number .before .before .before .before in (
+      refusal-put _ _ _ _ _ _ _ (first .put-all .ensures .0) (number .put-number .ensures .0) (second .put-all2 .ensures .0) (place .put-number2 .ensures .0) (third .put-all3 .ensures .0),
+      search needs,
+    )))
