@@ -2,7 +2,8 @@
 use mathlib.Core.Path.{_≡_, refl, sym, subst, ap, _∙_}
 use mathlib.Core.List.{List}
 use mathlib.Core.Bool.{Bool, true, false, cond, _&&_, _||_}
-use Prim.Native.Nat.{ℕ, _+_, _-_, _≤_, _<_}
+use Prim.Native.Nat.{ℕ, zero, suc, _+_, _-_, _≤_, _<_}
+use native.Mathlib.Nat.{add-zero}
 use native.Mathlib.Omega.{arith}
 use borrow.Author.Needs.{needs}
 use borrow.Author.Tests.{ne-eqb, le-leb, lt-leb, le-ltb, ltb-true, ltb-false}
@@ -27,6 +28,23 @@ module _ {p : ℕ → Bool} {s : List ℕ} where
 
   one : (m : ℕ) → p (getD s m 0) ≡ true → AllOf p s m (m + 1)
   one m e = record { each = λ j h k. (let is : j ≡ m = omega arith in ap (λ i. p (getD s i 0)) is ∙ e) }
+
+-- what a byte that passes keeps is kept by a run of them
+carried-by : (p : ℕ → Bool) (s : List ℕ) (P : ℕ → Type 0) → ((j : ℕ) → P j → j < length s → p (getD s j 0) ≡ true → P (j + 1))
+    → (n : ℕ) {i : ℕ} → P i → i + n ≤ length s → AllOf p s i (i + n) → P (i + n)
+carried-by p s P keeps zero {i} v l w = subst P (sym (add-zero i)) v
+carried-by p s P keeps (suc n) {i} v l w = subst P again
+    (carried-by p s P keeps n (keeps i v (omega arith) (w .each i (omega arith) (omega arith))) (omega arith) (record { each = λ j h k. w .each j (omega arith) (omega arith) }))
+  where
+    again : i + 1 + n ≡ i + suc n
+    again = omega arith
+
+pub carried : {p : ℕ → Bool} {s : List ℕ} (P : ℕ → Type 0) → ((j : ℕ) → P j → j < length s → p (getD s j 0) ≡ true → P (j + 1))
+    → {i r : ℕ} → P i → i ≤ r → r ≤ length s → AllOf p s i r → P r
+carried {p} {s} P keeps {i} {r} v l h w = subst P again (carried-by p s P keeps (r - i) v (omega arith) (record { each = λ j a b. w .each j a (omega arith) }))
+  where
+    again : i + (r - i) ≡ r
+    again = omega arith
 
 -- ── one test of eight ──
 
