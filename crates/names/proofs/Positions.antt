@@ -1,4 +1,4 @@
--- Positions in a list of names: along the list, one part after another, and that number k is answered exactly where the name is the kth.
+-- Positions in a list of names: along the list, one part after another, that number k is answered exactly where the name is the kth, and the largest number.
 use mathlib.Core.Path.{_≡_, refl, sym, ap, _∙_}
 use mathlib.Core.Logic.{_↔_}
 use mathlib.Core.List.{List, [], _∷_, map}
@@ -138,3 +138,22 @@ element-kth n j h = kth elementNames refl n j h
 pub attribute-kth : (n : List ℕ) (j : ℕ) → j < 10 → (attributeNumber n ≡ j + 1) ↔ (n ≡ getD attributeNames j [])
 unfolding attributeNumber attributeNames numberAmong counted same
 attribute-kth n j h = kth attributeNames refl n j h
+
+-- ── the largest ──
+
+among-high : (n : List ℕ) (k : ℕ) (ws : List (List ℕ)) → numberAmong n k ws ≤ k + length ws
+unfolding numberAmong
+among-high n k [] = omega arith
+among-high n k (w ∷ ws) = by (same n w) (among-high n (k + 1) ws)
+  where
+    by : (t : Bool) → numberAmong n (k + 1) ws ≤ k + 1 + length ws → cond t (k + 1) (numberAmong n (k + 1) ws) ≤ k + suc (length ws)
+    by true e = omega arith
+    by false e = omega arith
+
+pub element-high : (n : List ℕ) → elementNumber n ≤ 23
+unfolding elementNumber elementNames
+element-high n = among-high n 0 elementNames
+
+pub attribute-high : (n : List ℕ) → attributeNumber n ≤ 10
+unfolding attributeNumber attributeNames
+attribute-high n = among-high n 0 attributeNames

@@ -29,3 +29,8 @@ elementNumber n = numberAmong n 0 elementNames
 
 unfoldable pub attributeNumber : List ℕ → ℕ
 attributeNumber n = numberAmong n 0 attributeNames
+
+-- opens this page, to compute the number of a fixed name
+unfoldable pub names-page : Unit {0}
+unfolding same elementNames attributeNames numberAmong numberIn elementNumber attributeNumber
+names-page = tt

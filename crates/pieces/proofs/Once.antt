@@ -1,18 +1,18 @@
--- One answer: any two results that a contract allows are the same.
+-- One answer: any two results that a contract allows are the same. That a name has one end is shown in `pieces_cuts`.
 use mathlib.Core.Path.{_≡_, refl, sym, ap, _∙_}
 use mathlib.Core.List.{List}
 use mathlib.Core.Bool.{Bool, true, false}
-use mathlib.Core.Option.{Option, none, some}
+use mathlib.Core.Option.{none, some}
 use mathlib.Core.Logic.{⊎-elim}
 use Prim.Native.Nat.{ℕ, _+_, _≤_}
 use native.Mathlib.Omega.{arith}
 use borrow.Author.Tests.{eq-eqb, ne-eqb}
-use lib.ListN.{length, drop, length-drop}
+use lib.ListN.{length, drop}
 use Rattle.cdi.specs.Words.{any}
-use Rattle.cdi.specs.Pieces.{Piece, start, finish, remark, refer, text, malformed, unsupported, lower, nameAt, attributes, bears, twice}
+use Rattle.cdi.specs.Pieces.{Piece, start, finish, remark, refer, text, malformed, unsupported, lower, attributes, bears, twice}
 use Rattle.cdi.specs.Markup.{refers}
 use Rattle.scan.proofs.Tests.{eq-or-ne}
-use Rattle.pieces_cuts.specs.Places.{part, Name, attributeOf, attributeFrom, Next, valueFrom, Valued}
+use Rattle.pieces_cuts.specs.Places.{part, attributeOf, attributeFrom, Next, valueFrom, Valued}
 use Rattle.pieces_characters.specs.Characters.{clip, valueIn, Encoded}
 use Rattle.pieces_cuts.specs.Cuts.{pieceOf, before, Cuts, Stands}
 use Rattle.pieces_cuts.specs.declared.Kind.{Kind}
@@ -21,6 +21,7 @@ use Rattle.pieces_cuts.specs.declared.Cut.{Cut}
 use Rattle.pieces_cuts.specs.declared.places.Attribute.{Attribute as Places}
 use Rattle.pieces_cuts.specs.declared.places.Value.{Value}
 use Rattle.pieces_characters.specs.declared.Encoding.{Encoding}
+use Rattle.pieces_cuts.proofs.Once.{same-rest, apart, both}
 use Rattle.pieces_marks.proofs.Reading.{part-length}
 
 -- what equals a definition is one
@@ -51,10 +52,6 @@ utf8-once {c} {r} {q} v w = ap (λ b. encoding b (r .length)) (once (v .is) (w .
 
 -- ── places ──
 
--- a place is known by what follows it
-same-rest : (s : List ℕ) (r q : ℕ) → r ≤ length s → q ≤ length s → drop r s ≡ drop q s → r ≡ q
-same-rest s r q h k e = let l : length (drop r s) ≡ length (drop q s) = ap length e in omega (arith, length-drop r s, length-drop q s)
-
 -- a part's one end is known by its other end and its length
 module _ (s : List ℕ) (a b e f : ℕ) where
   part-end : a ≡ b → a ≤ e → b ≤ f → e ≤ length s → f ≤ length s → length (part s a e) ≡ length (part s b f) → e ≡ f
@@ -62,29 +59,6 @@ module _ (s : List ℕ) (a b e f : ℕ) where
 
   part-start : e ≡ f → a ≤ e → b ≤ f → e ≤ length s → f ≤ length s → length (part s a e) ≡ length (part s b f) → a ≡ b
   part-start p l m h k q = omega (arith, part-length s a e l h, part-length s b f m k)
-
--- nothing is not something
-apart : {A B : Type 0} {o : Option A} {a : A} → o ≡ none → o ≡ some a → B
-apart e f = let z : _≡_ {A = ℕ} 0 1 = cc in absurd (omega arith)
-
-both : {A : Type 0} {o : Option A} {a b : A} → o ≡ some a → o ≡ some b → a ≡ b
-both e f = cc
-
-module _ {s : List ℕ} {at r : ℕ} (v : Name s at r) where
-  name-none : r ≡ at → nameAt (drop at s) ≡ none
-  name-none e = v .is ∙ rw (eq-eqb r at e)
-
-  name-some : (r ≡ at → ⊥) → nameAt (drop at s) ≡ some (part s at r, drop r s)
-  name-some e = v .is ∙ rw (ne-eqb r at e)
-
-pub name-end-once : {s : List ℕ} {at r q : ℕ} → Name s at r → Name s at q → r ≡ q
-name-end-once {s} {at} {r} {q} v w = ⊎-elim
-    (λ a. ⊎-elim (λ b. a ∙ sym b) (λ b. apart (name-none v a) (name-some w b)) (eq-or-ne q at))
-    (λ a. ⊎-elim
-    (λ b. apart (name-none w b) (name-some v a))
-    (λ b. same-rest s r q (v .high) (w .high) (ap (λ x. x .1) (both (name-some v a) (name-some w b))))
-    (eq-or-ne q at))
-    (eq-or-ne r at)
 
 abbrev places : ℕ → ℕ → ℕ → ℕ → ℕ → Places
 places n b v c e = record { name = n; behind = b; value = v; close = c; end = e }

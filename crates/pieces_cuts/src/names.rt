@@ -1,8 +1,7 @@
 // Names: where the name that stands at a place ends.
 
-use scan::Class;
 use scan::is_name_start;
-use scan::span;
+use scan_runs::name_rest;
 ghost use Prim.Native.Nat.{_≤_};
 ghost use lib.ListN.{length};
 ghost use Rattle.pieces_cuts.specs.Places.{Name};
@@ -16,7 +15,7 @@ pub fn name_end(s: &[u8], at: usize) -> usize
         return at;
     }
     if is_name_start(s[at]) {
-        return span(s, at + 1, Class::Name);
+        return name_rest(s, at + 1);
     }
     at
 }

@@ -27,7 +27,7 @@ use Rattle.numbers.specs.declared.Range.{Range}
 use Rattle.numbers.specs.declared.Number.{Number}
 use Rattle.numbers.specs.declared.Number.the-variants.{Is, Not}
 use Rattle.pieces_cuts.specs.Places.{part, Next, Valued}
-use Rattle.pieces_attributes.specs.Orders.{Shows}
+use Rattle.pieces_attributes.specs.Answers.{Shows}
 use Rattle.pieces_cuts.specs.declared.places.Attribute.{Attribute as Places}
 use Rattle.pieces_cuts.specs.declared.places.Value.{Value}
 use Rattle.pieces_attributes.proofs.Walking.{no-more, one-more, less, Walking, walk}

@@ -1,21 +1,21 @@
 -- Elements by number: a name is told by its number, and a child's entry in a row by the child's number.
 use mathlib.Core.Path.{_≡_, refl, sym, ap, _∙_}
 use mathlib.Core.Logic.{_↔_, ⊎-elim}
-use mathlib.Core.List.{List, [], _∷_}
+use mathlib.Core.List.{List, []}
 use mathlib.Core.Bool.{Bool, true, false, cond, not, _&&_, _||_}
 use mathlib.Core.Option.{Option, none, some}
-use Prim.Native.Nat.{ℕ, suc, _+_, _-_, _<_, _≤_}
+use Prim.Native.Nat.{ℕ, _+_, _-_, _<_, _≤_}
 use native.Mathlib.Omega.{arith}
 use borrow.Author.Tests.{eqb-false, le-leb, lt-leb, eq-eqb, ne-eqb}
 use lib.Dec.{eqb, leb}
-use lib.ListN.{length, getD}
+use lib.ListN.{getD}
 use Rattle.cdi.specs.Words.{ascii, given, any, same, among, words-page}
 use Rattle.cdi.specs.Rows.{rows-page}
 use Rattle.cdi.specs.Rules.{entryFrom, entryOf, numberNames, isInt, rules-page}
 use Rattle.cdi.proofs.Quiet.{impossible, same-equal, same-self}
 use Rattle.scan.proofs.Tests.{lt-or-le, eq-or-ne}
-use Rattle.names.specs.Names.{elementNames, numberAmong, elementNumber}
-use Rattle.names.proofs.Positions.{element-kth}
+use Rattle.names.specs.Names.{elementNames, elementNumber}
+use Rattle.names.proofs.Positions.{element-kth, element-high}
 use Rattle.rules_judge.specs.Judging.{rowAt, judging-page}
 use Rattle.rules_judge.specs.Tables.{entryAt, manyAt, tables-page}
 use Rattle.rules_judge.specs.Parts.{isNumeric}
@@ -86,24 +86,11 @@ module _ (n : List ℕ) where
               (λ c. rw (ne-eqb m 19 a, ne-eqb m 20 b, ne-eqb m 21 c, eq-eqb m 22 (omega arith), low m h k))
               (eq-or-ne m 21)) (eq-or-ne m 20)) (eq-or-ne m 19)
 
-among-high : (n : List ℕ) (k : ℕ) (ws : List (List ℕ)) → numberAmong n k ws ≤ k + length ws
-unfolding numberAmong
-among-high n k [] = omega arith
-among-high n k (w ∷ ws) = by (same n w) (among-high n (k + 1) ws)
-  where
-    by : (t : Bool) → numberAmong n (k + 1) ws ≤ k + 1 + length ws → cond t (k + 1) (numberAmong n (k + 1) ws) ≤ k + suc (length ws)
-    by true e = omega arith
-    by false e = omega arith
-
-number-high : (n : List ℕ) → elementNumber n ≤ 23
-unfolding elementNumber elementNames
-number-high n = among-high n 0 elementNames
-
 pub number-below : (n : List ℕ) {c : ℕ} → c ≡ elementNumber n → c < 24
-number-below n e = omega (arith, e, number-high n)
+number-below n e = omega (arith, e, element-high n)
 
 name-back : (n : List ℕ) → (elementNumber n ≡ 0 → ⊥) → getD elementNames (elementNumber n - 1) [] ≡ n
-name-back n z = sym (element-kth n (elementNumber n - 1) (omega (arith, number-high n)) .0 there)
+name-back n z = sym (element-kth n (elementNumber n - 1) (omega (arith, element-high n)) .0 there)
   where
     there : elementNumber n ≡ elementNumber n - 1 + 1
     there = omega (arith, z)
@@ -149,7 +136,7 @@ module _ (r : ℕ) (n : List ℕ) where
 
         near : r < 12 → e .1 ≡ eqb (e .0) (manyAt r)
         near h =
-            let t = below 24 (isMany r) (below 12 areMany every-many r h) (elementNumber n) (omega (arith, number-high n)) in
+            let t = below 24 (isMany r) (below 12 areMany every-many r h) (elementNumber n) (omega (arith, element-high n)) in
             alike-equal _ _ (rw (name-back n numbered, q) at t)
 
   entry-at : entryAt r (elementNumber n) ≡ given (entryOf (rowAt r) n) 0 (λ e. e .0)

@@ -113,7 +113,7 @@ pub fn is_name_start(b: u8) -> bool
     b == 58
 }
 
-fn is_name_byte(b: u8) -> bool
+pub fn is_name_byte(b: u8) -> bool
     ensures { λ r. ⌜ r ≡ nameByte b ⌝ }
 {
     if is_name_start(b) {
@@ -149,7 +149,7 @@ fn is_hex_digit(b: u8) -> bool
     is_between(97, 102, b)
 }
 
-fn is_value_byte(quote: u8, b: u8) -> bool
+pub fn is_value_byte(quote: u8, b: u8) -> bool
     ensures { λ r. ⌜ r ≡ valueByte quote b ⌝ }
 {
     if b == quote {
