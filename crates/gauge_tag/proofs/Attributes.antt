@@ -29,7 +29,7 @@ use Rattle.numbers.specs.declared.Number.{Number}
 use Rattle.numbers.specs.declared.Number.the-variants.{Is, Not}
 use Rattle.numbers.specs.declared.Range.{Range}
 use Rattle.pieces_cuts.specs.Places.{part, Valued}
-use Rattle.pieces_attributes.specs.Orders.{Shows}
+use Rattle.pieces_attributes.specs.Answers.{Shows}
 use Rattle.pieces_cuts.specs.declared.places.Value.{Value}
 use Rattle.gauge_tag.specs.declared.Numbers.{Numbers}
 use Rattle.gauge_tag.specs.Gauging.{from-to}

@@ -1,3 +1,3 @@
 pub mod Attributing
+pub mod Showing
 pub mod Walking
-pub mod Sorting

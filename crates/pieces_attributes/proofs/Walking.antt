@@ -7,8 +7,8 @@ use mathlib.Core.Logic.{⊎-elim}
 use Prim.Native.Nat.{ℕ, zero, suc, _+_, _-_, _≤_, _<_}
 use native.Mathlib.Omega.{arith}
 use borrow.Author.Needs.{needs}
-use borrow.Author.Tests.{eq-eqb, ne-eqb, le-leb, lt-leb}
-use lib.Dec.{eqb, leb}
+use borrow.Author.Tests.{eq-eqb, ne-eqb}
+use lib.Dec.{eqb}
 use lib.ListN.{length, drop, getD, drop-of-length-le, length-drop}
 use lib.Seq.{drop-drop}
 use Rattle.cdi.specs.Words.{ascii, _>>=_, given, any, after, same, begins, between}
@@ -18,7 +18,7 @@ use Rattle.cdi.specs.Rules.{valueOf}
 use Rattle.scan.proofs.Along.{drop-next}
 use Rattle.scan.proofs.Tests.{lt-or-le, eq-or-ne}
 use Rattle.pieces_cuts.specs.Places.{part, attributeOf, attributeFrom, Next, valueFrom, Valued, closing, Closes}
-use Rattle.pieces_attributes.specs.Orders.{Shows}
+use Rattle.pieces_attributes.specs.Answers.{Shows}
 use Rattle.pieces_cuts.specs.declared.places.Attribute.{Attribute as Places}
 
 -- the bytes that are still to pass end at a place
@@ -271,33 +271,6 @@ module _ {s : List ℕ} {at i : ℕ} {a : Places} (w : Closing s at i) (v : Next
   another e = record { left = w .left ∙ tag-more v e; low = omega (arith, w .low, ahead v e); high = v .ordered .high }
 
 pub ruleset close-loop = (close-walk, last-one, another, less, needs)
-
--- ── how many attributes ──
-
--- n attributes stand before i
-pub record Counted (s : List ℕ) (at i n : ℕ) : Type 0 where
-  pub left : length (attributes 0 (drop at s)) ≡ n + length (attributes 0 (drop i s))
-  pub high : i ≤ length s
-
-pub uncounted : (s : List ℕ) (at : ℕ) → at ≤ length s → Counted s at at 0
-uncounted s at h = record { left = omega arith; high = h }
-
-module _ {s : List ℕ} {at i n : ℕ} (w : Counted s at i n) where
-  pub many : 16 ≤ n → true ≡ leb 16 (length (attributes 0 (drop at s)))
-  many h = sym (le-leb 16 (length (attributes 0 (drop at s))) (omega (arith, w .left)))
-
-  module _ {a : Places} (v : Next s i a) where
-    pub few : a .end ≡ i → n < 16 → false ≡ leb 16 (length (attributes 0 (drop at s)))
-    few e h =
-        let z : length (attributes 0 (drop i s)) ≡ 0 = ap length (no-more v e) in
-        sym (lt-leb 16 (length (attributes 0 (drop at s))) (omega (arith, w .left)))
-
-    pub one-counted : (a .end ≡ i → ⊥) → Counted s at (a .end) (n + 1)
-    one-counted e =
-        let z : length (attributes 0 (drop i s)) ≡ suc (length (attributes 0 (drop (a .end) s))) = ap length (one-more v e) in
-        record { left = omega (arith, w .left); high = v .ordered .high }
-
-pub ruleset count-attributes = (uncounted, many, few, one-counted, less, needs)
 
 -- ── a tag without attributes ──
 

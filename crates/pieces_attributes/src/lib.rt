@@ -3,24 +3,23 @@
 use pieces_cuts::names::name_end;
 use pieces_cuts::places::Attribute;
 use pieces_cuts::places::Value;
-use scan::Class;
 use scan::begins_at;
 use scan::byte_at;
 use scan::holds;
 use scan::is_blank;
 use scan::same;
-use scan::span;
+use scan_runs::blank_end;
+use scan_runs::value_rest;
 ghost use mathlib.Core.Path.{_≡_};
 ghost use mathlib.Core.Bool.{not};
 ghost use mathlib.Core.List.{[]};
 ghost use Prim.Native.Nat.{_≤_};
-ghost use lib.Dec.{leb};
 ghost use lib.ListN.{length, drop, getD};
 ghost use Rattle.cdi.specs.Words.{any};
 ghost use Rattle.cdi.specs.Pieces.{blank, isQuote, attributes, bears};
 ghost use Rattle.cdi.specs.Markup.{refers};
 ghost use Rattle.pieces_cuts.specs.Places.{Quoted, Here, Next, Valued};
-ghost use Rattle.pieces_attributes.specs.Orders.{Shows};
+ghost use Rattle.pieces_attributes.specs.Answers.{Shows};
 
 // Does a value stand in this quote?
 fn is_quote(b: u8) -> bool
@@ -55,7 +54,7 @@ fn value_end(s: &[u8], at: usize) -> usize
     }
     let quote = s[at];
     if is_quote(quote) {
-        let close = span(s, at + 1, Class::Value(quote));
+        let close = value_rest(s, at + 1, quote);
         if s.len() <= close {
             return at;
         }
@@ -76,9 +75,9 @@ fn attribute_at(s: &[u8], at: usize) -> Attribute
     if behind == at {
         return no_attribute(at);
     }
-    let equals = span(s, behind, Class::Blank);
+    let equals = blank_end(s, behind);
     if begins_at(s, equals, b"=") {
-        let quote = span(s, equals + 1, Class::Blank);
+        let quote = blank_end(s, equals + 1);
         let end = value_end(s, quote);
         if end < quote + 2 {
             return no_attribute(at);
@@ -99,7 +98,7 @@ pub fn next_attribute(s: &[u8], at: usize) -> Attribute
     requires { ⌜ at ≤ length (now s) ⌝ }
     ensures { λ r. ⌜ Next (now (s .entry)) at r ⌝ }
 {
-    let name = span(s, at, Class::Blank);
+    let name = blank_end(s, at);
     if name == at {
         return no_attribute(at);
     }
@@ -141,25 +140,6 @@ pub fn is_named(s: &[u8], at: usize, name: &[u8]) -> bool
         }
         i = end;
     }
-}
-
-// Are there at least 16 attributes from this place on?
-pub fn has_many(s: &[u8], at: usize) -> bool
-    requires { ⌜ at ≤ length (now s) ⌝ }
-    ensures { λ r. ⌜ r ≡ leb 16 (length (attributes 0 (drop at (now (s .entry))))) ⌝ }
-{
-    let mut i = at;
-    let mut n: usize = 0;
-    while n < 16 {
-        let a = next_attribute(s, i);
-        let end = a.end;
-        if end == i {
-            return false;
-        }
-        n += 1;
-        i = end;
-    }
-    true
 }
 
 // Has one of the attributes from this place on a `&` in its value?

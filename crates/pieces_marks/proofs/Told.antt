@@ -32,6 +32,15 @@ all-while p (x ∷ s) = by (p x) (all-while p s)
     by true e = e ∙ shift (length (while p s)) (length s)
     by false e = sym (ne-eqb 0 (suc (length s)) (λ z. omega arith))
 
+-- A run is blank exactly if its first byte that isn't blank would stand at its end.
+pub run-blank : (s : List ℕ) (at e solid : ℕ) → at ≤ e → e ≤ length s → solid ≡ at + length (while blank (part s at e)) → all blank (part s at e) ≡ eqb solid e
+run-blank s at e solid l h m =
+    let n = part-length s at e l h in
+    all-while blank (part s at e) ∙ moved (length (while blank (part s at e))) (length (part s at e)) solid e m (omega arith)
+  where
+    moved : (a b c d : ℕ) → c ≡ at + a → d ≡ at + b → eqb a b ≡ eqb c d
+    moved a b c d p q = ⊎-elim (λ h. rw (eq-eqb a b h, eq-eqb c d (omega arith))) (λ h. rw (ne-eqb a b h, ne-eqb c d (λ z. h (omega arith)))) (eq-or-ne a b)
+
 module _ {s : List ℕ} {at : ℕ} {r : Cut} (v : Stands s at r) where
   what : (k : Kind) → r .kind ≡ k → pieceAt (drop at s) .0 ≡ pieceOf k s at r
   what k e = ap (λ x. x .0) (v .cut .is) ∙ rw e
@@ -81,14 +90,7 @@ module _ {s : List ℕ} {at : ℕ} {r : Cut} (v : Stands s at r) where
 
     -- whether there is one
     pub text-blank : all blank (part s at (r .end)) ≡ eqb (r .solid) (r .end)
-    text-blank =
-        let l : at ≤ r .end = omega (arith, v .cut .low) in
-        let n = part-length s at (r .end) l (v .cut .high) in
-        let m = text-solid in
-        all-while blank (part s at (r .end)) ∙ moved (length (while blank (part s at (r .end)))) (length (part s at (r .end))) (r .solid) (r .end) m (omega arith)
-      where
-        moved : (a b c d : ℕ) → c ≡ at + a → d ≡ at + b → eqb a b ≡ eqb c d
-        moved a b c d p q = ⊎-elim (λ h. rw (eq-eqb a b h, eq-eqb c d (omega arith))) (λ h. rw (ne-eqb a b h, ne-eqb c d (λ z. h (omega arith)))) (eq-or-ne a b)
+    text-blank = run-blank s at (r .end) (r .solid) (omega (arith, v .cut .low)) (v .cut .high) text-solid
 
   pub no-piece : r .kind ≡ Malformed → pieces at 0 (drop at s) ≡ (at, malformed) ∷ pieces (r .end) 0 (drop (r .end) s)
   unfolding pieceOf

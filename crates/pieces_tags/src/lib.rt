@@ -1,20 +1,22 @@
 // Tags. Each reader is handed the part of the content that starts with the tag.
 
-use pieces_attributes::has_many;
 use pieces_attributes::has_reference;
 use pieces_attributes::next_attribute;
 use pieces_cuts::Cut;
 use pieces_cuts::Kind;
 use pieces_cuts::cuts::malformed;
 use pieces_cuts::names::name_end;
-use pieces_twice::is_plainly_twice;
+use pieces_listed::is_plainly_twice;
+use pieces_twice::is_twice_among_few;
 use pieces_twice::is_twice_among_many;
+use pieces_twice::is_twice_among_more;
 use scan::Class;
 use scan::begins_at;
 use scan::span;
+ghost use mathlib.Core.Path.{_≡_};
 ghost use Prim.Native.Nat.{_≤_};
 ghost use lib.ListN.{length, drop};
-ghost use Rattle.cdi.specs.Pieces.{orMalformed, startTag, endTag};
+ghost use Rattle.cdi.specs.Pieces.{attributes, twice, orMalformed, startTag, endTag};
 ghost use Rattle.pieces_cuts.specs.Places.{Closes};
 ghost use Rattle.pieces_cuts.specs.Cuts.{tagOf, Cuts};
 
@@ -59,23 +61,35 @@ fn attributes_end(s: &[u8], at: usize) -> usize
     }
 }
 
-// Are the attributes from this place to before `last` so many that a table of their names pays? 16 have at least 80 bytes. Nothing rests on it.
-fn is_wide(s: &[u8], at: usize, last: usize) -> bool
-    requires { ⌜ (at ≤ last) × (last ≤ length (now s)) ⌝ }
+// Have the attributes from this place to before `last` room for so many that a table of their names pays? 8 have at least 40 bytes. Nothing rests on it.
+fn is_wide(at: usize, last: usize) -> bool
+    requires { ⌜ at ≤ last ⌝ }
 {
-    if last - at < 80 {
-        return false;
-    }
-    has_many(s, at)
+    40 <= last - at
 }
 
-// A start tag of many attributes, whose name ends before `behind`, and which closes before `end`, in the short form or not. It stands by itself
-// since the tables of names take much room.
-fn wide_tag(s: &[u8], behind: usize, end: usize, short: bool) -> Cut
-    requires { ⌜ (1 ≤ behind) × (behind ≤ end) × (1 ≤ end) × (end ≤ length (now s)) ⌝ }
+// Does a name stand twice among the attributes from this place to before `last`? An attribute has at least 5 bytes with the blank before it, which
+// tells how many names need room. Nothing rests on that.
+fn is_twice(s: &[u8], at: usize, last: usize) -> bool
+    requires { ⌜ (at ≤ last) × (last ≤ length (now s)) ⌝ }
+    ensures { λ r. ⌜ r ≡ twice (attributes 0 (drop at (now (s .entry)))) ⌝ }
+{
+    if last - at < 320 {
+        return is_twice_among_few(s, at);
+    }
+    if last - at < 5120 {
+        return is_twice_among_more(s, at);
+    }
+    is_twice_among_many(s, at)
+}
+
+// A start tag that may have many attributes, whose name ends before `behind` and the last of them before `last`, and which closes before `end`, in the short
+// form or not. It stands by itself since tables of names take room.
+fn wide_tag(s: &[u8], behind: usize, last: usize, end: usize, short: bool) -> Cut
+    requires { ⌜ (Closes (now s) behind last) × (1 ≤ behind) × (behind ≤ end) × (1 ≤ end) × (end ≤ length (now s)) ⌝ }
     ensures { λ r. ⌜ Cuts (now (s .entry)) 0 (orMalformed (tagOf (now (s .entry)) behind end short)) r ⌝ }
 {
-    if is_twice_among_many(s, behind) {
+    if is_twice(s, behind, last) {
         return malformed(s);
     }
     let refers = has_reference(s, behind);
@@ -135,16 +149,16 @@ pub fn start_tag(s: &[u8]) -> Cut
     }
     let last = attributes_end(s, behind);
     let close = span(s, last, Class::Blank);
-    let wide = is_wide(s, behind, last);
+    let wide = is_wide(behind, last);
     if begins_at(s, close, b">") {
         if wide {
-            return wide_tag(s, behind, close + 1, false);
+            return wide_tag(s, behind, last, close + 1, false);
         }
         return tag(s, behind, last, close + 1, false);
     }
     if begins_at(s, close, b"/>") {
         if wide {
-            return wide_tag(s, behind, close + 2, true);
+            return wide_tag(s, behind, last, close + 2, true);
         }
         return tag(s, behind, last, close + 2, true);
     }

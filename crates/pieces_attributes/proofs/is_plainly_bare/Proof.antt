@@ -1,6 +1,6 @@
 use borrow.Author.Needs.{needs}
 use Rattle.pieces_attributes.proofs.Walking.{blank-there, no-blank, bare}
-use Rattle.pieces_attributes.proofs.Sorting.{shows-nothing}
+use Rattle.pieces_attributes.proofs.Showing.{shows-nothing}
 use Rattle.pieces_attributes.proofs.is_plainly_bare.Statement.{statement}
 use Rattle.pieces_attributes.proofs.is_plainly_bare.Tie as tie
 
