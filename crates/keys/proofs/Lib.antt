@@ -1,0 +1,2 @@
+pub mod Keying
+pub mod Once

@@ -1,0 +1,119 @@
+-- The rules of an element by the codes, one law for each way through the code.
+use mathlib.Core.Path.{_≡_, refl, sym, ap, _∙_}
+use mathlib.Core.List.{List, [], _∷_}
+use mathlib.Core.Bool.{Bool, true, false, cond}
+use mathlib.Core.Logic.{⊎-elim}
+use Prim.Native.Nat.{ℕ, zero, suc, _+_, _≤_, _<_}
+use native.Mathlib.Omega.{arith}
+use borrow.Author.Needs.{needs}
+use borrow.Author.Tests.{eqb-true}
+use lib.Dec.{eqb}
+use lib.ListN.{length, getD, List·getD-eq-default}
+use Rattle.scan.proofs.Tests.{lt-or-le, eq-or-ne}
+use Rattle.rules_judge.specs.Tables.{ruleNumbers, ruleAt, attributeOf, tables-page}
+use Rattle.rules_tables.proofs.Below.{all-below, below, Below, at-below}
+use Rattle.tags_faults.specs.Told.{lesserOf, ruleBy, rulesBy, faultBy, told-page}
+
+-- ── which attributes an element knows ──
+
+unfoldable pub knownTable : List (List ℕ)
+knownTable = (0 ∷ 0 ∷ 0 ∷ []) ∷ (1 ∷ 2 ∷ 0 ∷ []) ∷ (0 ∷ 0 ∷ 0 ∷ []) ∷ (3 ∷ 4 ∷ 0 ∷ []) ∷ (5 ∷ 6 ∷ 0 ∷ []) ∷ (7 ∷ 8 ∷ 0 ∷ []) ∷ (9 ∷ 8 ∷ 0 ∷ []) ∷ (9 ∷ 8 ∷ 0 ∷ []) ∷ (8 ∷ 0 ∷ 0 ∷ []) ∷ (9 ∷ 8 ∷ 10 ∷ []) ∷ (0 ∷ 0 ∷ 0 ∷ []) ∷ (0 ∷ 0 ∷ 0 ∷ []) ∷ []
+
+knows : all-below 12 (λ e. all-below 3 (λ i. eqb (getD (getD knownTable e []) i 0) (attributeOf (ruleAt e i)))) ≡ true
+unfolding all-below knownTable tables-page
+knows = refl
+
+module _ (e i : ℕ) where
+  pub known-there : {k m : ℕ} → e < 12 → i < 3 → k ≡ e → m ≡ i → getD (getD knownTable k []) m 0 ≡ attributeOf (ruleAt e i)
+  known-there h g p q = rw (p, q) (eqb-true _ _ (below 3 _ (below 12 _ knows e h) i g))
+
+  pub none-known : 12 ≤ e → 0 ≡ attributeOf (ruleAt e i)
+  unfolding ruleAt attributeOf
+  none-known h = sym (ap (λ (l : List ℕ). attributeOf (getD l i 0)) (List·getD-eq-default ruleNumbers [] far))
+    where
+      far : length ruleNumbers ≤ e
+      far = unfold ruleNumbers in omega arith
+
+pub ruleset known-table = (known-there, none-known, needs)
+
+-- ── the faults ──
+
+pub chain : (x y u : ℕ) {z r : ℕ} → r ≡ lesserOf x z → z ≡ lesserOf y u → r ≡ lesserOf x (lesserOf y u)
+chain x y u e f = e ∙ rw f
+
+-- an element of that number, by its three rules
+pub by-rules : (e k : ℕ) (codes : List ℕ) (exact : ℕ) {x y w z : ℕ} → e ≡ k → x ≡ ruleBy (ruleAt k 0) codes exact → y ≡ ruleBy (ruleAt k 1) codes exact → w ≡ ruleBy (ruleAt k 2) codes exact
+    → z ≡ lesserOf x (lesserOf y w) → z ≡ rulesBy e codes exact
+unfolding rulesBy
+by-rules e k codes exact q f g h r = r ∙ rw (f, g, h, q)
+
+nine : (e : ℕ) → e < 10 → 6 ≤ e → (e ≡ 6 → ⊥) → (e ≡ 7 → ⊥) → (e ≡ 8 → ⊥) → e ≡ 9
+nine e h l a b c = omega arith
+
+-- a float is what is left
+pub by-last : (e : ℕ) (codes : List ℕ) (exact : ℕ) {x y w z : ℕ} → 6 ≤ e → e < 10 → (e ≡ 6 → ⊥) → (e ≡ 7 → ⊥) → (e ≡ 8 → ⊥)
+    → x ≡ ruleBy (ruleAt 9 0) codes exact → y ≡ ruleBy (ruleAt 9 1) codes exact → w ≡ ruleBy (ruleAt 9 2) codes exact → z ≡ lesserOf x (lesserOf y w) → z ≡ rulesBy e codes exact
+by-last e codes exact l h a b c f g k r = by-rules e 9 codes exact (nine e h l a b c) f g k r
+
+three : (e : ℕ) → e < 6 → (e ≡ 4 → ⊥) → (e ≡ 5 → ⊥) → e ≤ 3
+three e h a b = omega arith
+
+two : (e : ℕ) → (e ≡ 0 → ⊥) → (e ≡ 1 → ⊥) → e ≤ 3 → (e ≡ 3 → ⊥) → e ≡ 2
+two e a b h d = omega arith
+
+no-row : (i : ℕ) → _≡_ {A = ℕ} (getD (0 ∷ 0 ∷ 0 ∷ []) i 0) 0
+no-row zero = refl
+no-row (suc zero) = refl
+no-row (suc (suc zero)) = refl
+no-row (suc (suc (suc i))) = refl
+
+-- the text itself and identification have no rules; text, a map and a relation have none either
+pub no-rules : (e : ℕ) (codes : List ℕ) (exact : ℕ) → ruleAt e 0 ≡ 0 → ruleAt e 1 ≡ 0 → ruleAt e 2 ≡ 0 → 0 ≡ rulesBy e codes exact
+unfolding rulesBy ruleBy lesserOf
+no-rules e codes exact f g h = rw (f, g, h)
+
+beyond : (e : ℕ) → 10 ≤ e → (e ≡ 10 → ⊥) → (e ≡ 11 → ⊥) → length ruleNumbers ≤ e
+unfolding ruleNumbers
+beyond e h q z = omega arith
+
+module _ (e : ℕ) (codes : List ℕ) where
+  pub outer-none : e < 6 → (e ≡ 4 → ⊥) → (e ≡ 5 → ⊥) → (e ≡ 1 → ⊥) → (e ≡ 3 → ⊥) → 0 ≡ rulesBy e codes 0
+  outer-none h a b c d = ⊎-elim
+      (λ (q : e ≡ 0). unfold tables-page in no-rules e codes 0 (rw q) (rw q) (rw q))
+      (λ (q : e ≡ 0 → ⊥). unfold tables-page in let w : e ≡ 2 = two e q c (three e h a b) d in no-rules e codes 0 (rw w) (rw w) (rw w))
+      (eq-or-ne e 0)
+
+  OuterAny : ℕ → ℕ → Type 0
+  OuterAny exact k = rulesBy k codes 0 ≡ rulesBy k codes exact
+
+  outer-each : (exact : ℕ) → Below (OuterAny exact) 6
+  unfolding Below OuterAny told-page tables-page
+  outer-each exact = (refl, (refl, (refl, (refl, (refl, (refl, tt))))))
+
+  module _ (exact : ℕ) where
+    pub outer-told : {known : Bool} {r : ℕ} → known ≡ true → e < 6 → r ≡ rulesBy e codes 0 → r ≡ faultBy e codes exact known
+    unfolding faultBy OuterAny
+    outer-told k h f = f ∙ at-below (OuterAny exact) 6 (outer-each exact) e h ∙ rw k
+
+    pub inner-told : {known : Bool} {r : ℕ} → known ≡ true → r ≡ rulesBy e codes exact → r ≡ faultBy e codes exact known
+    unfolding faultBy
+    inner-told k f = f ∙ rw k
+
+    pub none-told : {known : Bool} → known ≡ true → 10 ≤ e → 0 ≡ faultBy e codes exact known
+    unfolding faultBy
+    none-told k h = no-rules e codes exact (far 0) (far 1) (far 2) ∙ rw k
+      where
+        far : (i : ℕ) → ruleAt e i ≡ 0
+        far i = unfold ruleAt ruleNumbers in ⊎-elim
+            (λ (q : e ≡ 10). rw q (no-row i))
+            (λ (q : e ≡ 10 → ⊥). ⊎-elim
+            (λ (z : e ≡ 11). rw z (no-row i))
+            (λ (z : e ≡ 11 → ⊥). ap (λ (l : List ℕ). getD l i 0) (List·getD-eq-default ruleNumbers [] (beyond e h q z)))
+            (eq-or-ne e 11))
+            (eq-or-ne e 10)
+
+    pub unknown-told : {known : Bool} → known ≡ false → 8 ≡ faultBy e codes exact known
+    unfolding faultBy
+    unknown-told k = rw k
+
+pub ruleset fault-cases = (outer-told, inner-told, none-told, unknown-told, needs)

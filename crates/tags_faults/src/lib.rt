@@ -1,0 +1,192 @@
+// The faults of a tag's attributes against the rules of its element, by the codes of their values: the least of their numbers, or 0. All stand at
+// the tag's `<`.
+
+ghost use mathlib.Core.Path.{_≡_};
+ghost use Prim.Native.Nat.{_≤_, _<_};
+ghost use Rattle.rules_judge.specs.Tables.{ruleAt, attributeOf, isOneOf};
+ghost use Rattle.tags_faults.specs.Told.{lesserOf, ownBy, neededBy, intBy, floatBy, rulesBy, faultBy};
+
+// The numbers of attributes.
+const NAMESPACE: usize = 1;
+
+const SCHEMA: usize = 2;
+
+const FIXED: usize = 3;
+
+const VAR: usize = 4;
+
+const SPACE: usize = 5;
+
+const ORIGIN: usize = 6;
+
+const REPLICATION: usize = 7;
+
+const OFFSET: usize = 8;
+
+const SIZE: usize = 9;
+
+const FORMATTING: usize = 10;
+
+// The attributes that each element knows, from the text itself to relation.
+const KNOWN: [[u8; 3]; 12] = [
+    [0, 0, 0],
+    [1, 2, 0],
+    [0, 0, 0],
+    [3, 4, 0],
+    [5, 6, 0],
+    [7, 8, 0],
+    [9, 8, 0],
+    [9, 8, 0],
+    [8, 0, 0],
+    [9, 8, 10],
+    [0, 0, 0],
+    [0, 0, 0],
+];
+
+fn wide(number: u8) -> usize
+    ensures { λ r. ⌜ r ≡ number ⌝ }
+{
+    number as usize
+}
+
+// The number of the attribute of that index, 0 to 2, that an element knows; 0 is none.
+pub fn known_at(element: u8, index: usize) -> u8
+    requires { ⌜ index < 3 ⌝ }
+    ensures { λ r. ⌜ r ≡ attributeOf (ruleAt element index) ⌝ }
+{
+    if element < 12 {
+        let i = wide(element);
+        return KNOWN[i][index];
+    }
+    0
+}
+
+// Is an attribute of that number one of three?
+pub fn is_one_of(one: u8, two: u8, three: u8, number: u8) -> bool
+    ensures { λ r. ⌜ r ≡ isOneOf one two three number ⌝ }
+{
+    (number != 0) & ((number == one) | ((number == two) | (number == three)))
+}
+
+// The smaller of two numbers of faults, of which 0 is none.
+fn lesser(m: u8, n: u8) -> u8
+    ensures { λ r. ⌜ r ≡ lesserOf m n ⌝ }
+{
+    if m == 0 {
+        return n;
+    }
+    if n == 0 {
+        return m;
+    }
+    if n < m {
+        return n;
+    }
+    m
+}
+
+fn least(one: u8, two: u8, three: u8) -> u8
+    ensures { λ r. ⌜ r ≡ lesserOf one (lesserOf two three) ⌝ }
+{
+    lesser(one, lesser(two, three))
+}
+
+// The fault of a value that is there.
+fn own(code: u8) -> u8
+    ensures { λ r. ⌜ r ≡ ownBy code ⌝ }
+{
+    if code < 3 {
+        return 0;
+    }
+    code
+}
+
+// The same of one that must be there.
+fn needed(code: u8) -> u8
+    ensures { λ r. ⌜ r ≡ neededBy code ⌝ }
+{
+    if code == 0 {
+        return 8;
+    }
+    own(code)
+}
+
+// The fault of an int's size, by the exact size that its text says.
+fn int_fault(exact: u8) -> u8
+    ensures { λ r. ⌜ r ≡ intBy exact ⌝ }
+{
+    if exact < 1 {
+        return 10;
+    }
+    0
+}
+
+// The same of a float's.
+fn float_fault(code: u8, exact: u8) -> u8
+    ensures { λ r. ⌜ r ≡ floatBy code exact ⌝ }
+{
+    if code == 0 {
+        return 8;
+    }
+    if exact < 2 {
+        return 10;
+    }
+    0
+}
+
+// The attributes of cdi, of acdi, of a segment and of a group.
+fn outer_fault(element: u8, codes: &[u8; 11]) -> u8
+    requires { ⌜ element < 6 ⌝ }
+    ensures { λ r. ⌜ r ≡ rulesBy element (now (codes .entry)) 0 ⌝ }
+{
+    if element == 4 {
+        return least(needed(codes[SPACE]), own(codes[ORIGIN]), 0);
+    }
+    if element == 5 {
+        return least(own(codes[REPLICATION]), own(codes[OFFSET]), 0);
+    }
+    if element == 1 {
+        return least(needed(codes[NAMESPACE]), needed(codes[SCHEMA]), 0);
+    }
+    if element == 3 {
+        return least(own(codes[FIXED]), own(codes[VAR]), 0);
+    }
+    0
+}
+
+// Those of an int, a string, an eventid and a float.
+fn inner_fault(element: u8, codes: &[u8; 11], exact: u8) -> u8
+    requires { ⌜ (6 ≤ element) × (element < 10) ⌝ }
+    ensures { λ r. ⌜ r ≡ rulesBy element (now (codes .entry)) exact ⌝ }
+{
+    let offset = own(codes[OFFSET]);
+    if element == 6 {
+        return least(int_fault(exact), offset, 0);
+    }
+    if element == 7 {
+        return least(needed(codes[SIZE]), offset, 0);
+    }
+    if element == 8 {
+        return least(offset, 0, 0);
+    }
+    least(
+        float_fault(codes[SIZE], exact),
+        offset,
+        own(codes[FORMATTING]),
+    )
+}
+
+// The least number of the faults of a tag of that element.
+pub fn fault_of(element: u8, codes: &[u8; 11], exact: u8, known: bool) -> u8
+    ensures { λ r. ⌜ r ≡ faultBy element (now (codes .entry)) exact known ⌝ }
+{
+    if known {
+        if element < 6 {
+            return outer_fault(element, codes);
+        }
+        if element < 10 {
+            return inner_fault(element, codes, exact);
+        }
+        return 0;
+    }
+    8
+}

@@ -1,0 +1,4 @@
+pub mod Ranged
+pub mod Coded
+pub mod Numbered
+pub mod Formed
