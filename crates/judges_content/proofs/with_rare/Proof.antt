@@ -1,0 +1,13 @@
+use borrow.Author.Needs.{needs}
+use Rattle.judges_content.proofs.Between.{between}
+use Rattle.judges_content.proofs.with_rare.Statement.{statement}
+use Rattle.judges_content.proofs.with_rare.Tie as tie
+
+pub with-rare-spec : {M : Type 1} → statement M
+with-rare-spec =
+    tie.close (tie.spec
+    (λ c κs. search needs)
+    (λ c κs. search needs)
+    (λ c κs. search needs)
+    (λ c κs. search needs)
+    (λ c. search between))

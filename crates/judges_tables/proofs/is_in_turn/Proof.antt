@@ -1,0 +1,12 @@
+use borrow.Author.Needs.{needs}
+use Rattle.rules_tables.proofs.Tabled.{turns}
+use Rattle.judges_tables.proofs.is_in_turn.Statement.{statement}
+use Rattle.judges_tables.proofs.is_in_turn.Tie as tie
+
+pub is-in-turn-spec : {M : Type 1} → statement M
+is-in-turn-spec =
+    tie.close (tie.spec
+    (λ c. search turns)
+    (λ c κs. search needs)
+    (λ c. search turns)
+    (λ c. search turns))
