@@ -134,7 +134,7 @@ module _ (t : List ℤ) (u : Nodes) (st : State) (t′ : List ℤ) (q : folded s
   unfolding atFirst G.atStart
   root-is = ap (λ (f : Folded). f .state .root) q ∙ root-alone atFirst t u u refl refl
 
-  module _ (few : st .gauge .records ≤ 4096) (long : 32768 ≤ length t) where
+  module _ (room : 8 * st .gauge .records ≤ length t) where
     module _ (h : elementFaults u ≡ []) where
       records-are : st .gauge .records ≡ recordsOf (told .segments)
       records-are = ap (λ (g : Gauge). g .records) gauge-is ∙ records-gauged t u h
@@ -185,7 +185,11 @@ module _ (t : List ℤ) (u : Nodes) (st : State) (t′ : List ℤ) (q : folded s
         measures (quiet (elementFaults u) k) (st .gauge .leaves) refl ∙ sym (clean u k)
     judges (Is f) e = sym (unclean u (sym least-is ∙ ap J.asFault e))
 
-    -- The state at the end settles stages 8 to 12.
-    pub settles : saidOf (settledOf st) t′ ≡ ofTree u
+    -- Where the table had room for all records, the state at the end settles stages 8 to 12.
+    pub settles-in-room : saidOf (settledOf st) t′ ≡ ofTree u
     unfolding settledOf
-    settles = judges (st .judge .least) refl
+    settles-in-room = judges (st .judge .least) refl
+
+  -- A table for 4,096 records has room for all.
+  pub settles : st .gauge .records ≤ 4096 → 32768 ≤ length t → saidOf (settledOf st) t′ ≡ ofTree u
+  settles few long = settles-in-room (omega arith)

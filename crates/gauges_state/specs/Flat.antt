@@ -1,0 +1,26 @@
+-- What the flat gauge stands for.
+use mathlib.Core.Bool.{cond}
+use Prim.Native.Nat.{ℕ, _≤_}
+use lib.Dec.{eqb}
+use Rattle.extent.specs.Reach.{Small}
+use Rattle.gauge_tag.specs.declared.Leaves.{Leaves}
+use Rattle.gauge_tag.specs.declared.Leaves.the-variants.{Never, At}
+use Rattle.gauge_tag.specs.declared.Gauge.{Gauge as Known}
+use Rattle.gauges_state.specs.declared.Gauge.{Gauge}
+
+-- the first segment that leaves the addresses, by its place; the largest number stands for none
+unfoldable pub leavesOf : ℕ → Leaves
+leavesOf p = cond (eqb p 18446744073709551615) Never (At p)
+
+-- what is known of the walk; the root's place is no part of it
+unfoldable pub gaugeOf : Gauge → Known
+gaugeOf g = record { extent = g .extent; level = g .level; records = g .records; total = g .total; leaves = leavesOf (g .leaves) }
+
+-- a gauge whose numbers are those that the code holds
+pub record Kept (g : Gauge) : Type 0 where
+  pub extent : Small (g .extent)
+  pub total : g .total ≤ 1000001
+
+unfoldable pub flat-page : Unit {0}
+unfolding leavesOf gaugeOf
+flat-page = tt

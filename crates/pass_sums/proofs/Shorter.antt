@@ -1,0 +1,86 @@
+-- A shorter table: the fold of a tree gives the same state, and the front of the same table.
+use mathlib.Core.Path.{_≡_, refl, sym, ap, _∙_}
+use mathlib.Core.List.{List, [], _∷_, _++_}
+use mathlib.Core.Bool.{Bool, true, false, cond}
+use Prim.Native.Nat.{ℕ, zero, suc, _*_, _≤_}
+use lib.IntN.{ℤ}
+use lib.ListN.{length, take, set}
+use lib.Seq.{sets, take-take, take-append-seam}
+use Rattle.cdi.specs.Pieces.{Attribute}
+use Rattle.cdi.specs.Tree.{Nodes, end, element, other}
+use Rattle.gauge_tag.specs.Gauging as G
+use Rattle.pass_sums.specs.Sums.{recordsOf, enterOf, otherOf, leaveOf, writtenOf}
+use Rattle.pass_sums.specs.Folding.{Folded, folded, foldNodes}
+use Rattle.pass_sums.specs.declared.State.{State}
+
+-- ── the front of a list ──
+
+module _ {A : Type 0} where
+  -- A number is written into the front of a list, or behind it, as into the list.
+  pub set-front : (n : ℕ) (t : List A) (k : ℕ) (x : A) → set (take n t) k x ≡ take n (set t k x)
+  set-front zero t k x = refl
+  set-front (suc n) [] k x = refl
+  set-front (suc n) (y ∷ t) zero x = refl
+  set-front (suc n) (y ∷ t) (suc k) x = ap (λ (u : List A). y ∷ u) (set-front n t k x)
+
+  -- So are many.
+  pub sets-front : (n : ℕ) (t : List A) (k : ℕ) (xs : List A) → sets (take n t) k xs ≡ take n (sets t k xs)
+  sets-front n t k [] = refl
+  sets-front n t k (x ∷ xs) = ap (λ (u : List A). sets u (suc k) xs) (set-front n t k x) ∙ sets-front n (set t k x) (suc k) xs
+
+-- ── the fold ──
+
+written-front : (n : ℕ) (o : State) (p : ℕ) (w : List ℕ) (s : List Attribute) (i : State) (t : List ℤ) → writtenOf o p w s i (take n t) ≡ take n (writtenOf o p w s i t)
+unfolding writtenOf G.written
+written-front n o p w s i t = by (G.recorded (o .gauge .level) w)
+  where
+    r : List ℤ
+    r = G.recordOf (o .gauge) p w s (i .gauge)
+
+    by : (b : Bool) → cond b (sets (take n t) (o .gauge .records * 8) r) (take n t) ≡ take n (cond b (sets t (o .gauge .records * 8) r) t)
+    by true = sets-front n t (o .gauge .records * 8) r
+    by false = refl
+
+-- what a fold gives, with the front of the table
+abbrev pub front : ℕ → Folded → Folded
+front n f = folded (f .state) (take n (f .table))
+
+-- Into the front of a table, the fold of a tree gives its state, and the front of its table.
+pub fold-front : (n : ℕ) (st : State) (t : List ℤ) (u : Nodes) → foldNodes st (take n t) u ≡ front n (foldNodes st t u)
+unfolding foldNodes
+fold-front n st t end = refl
+fold-front n st t (other p c following) = fold-front n (otherOf st p c) t following
+fold-front n st t (element p w s kids following) =
+    let i = foldNodes (enterOf st p w s) t kids in
+    ap (λ (f : Folded). foldNodes (leaveOf st p w s (f .state)) (writtenOf st p w s (f .state) (f .table)) following) (fold-front n (enterOf st p w s) t kids)
+    ∙ ap (λ (x : List ℤ). foldNodes (leaveOf st p w s (i .state)) x following) (written-front n st p w s (i .state) (i .table))
+    ∙ fold-front n (leaveOf st p w s (i .state)) (writtenOf st p w s (i .state) (i .table)) following
+
+-- ── for the planner ──
+
+module _ (n : ℕ) (st : State) (t : List ℤ) (u : Nodes) where
+  -- The state is that of the whole table.
+  pub state-front : foldNodes st (take n t) u .state ≡ foldNodes st t u .state
+  state-front = ap (λ (f : Folded). f .state) (fold-front n st t u)
+
+  pub table-front : foldNodes st (take n t) u .table ≡ take n (foldNodes st t u .table)
+  table-front = ap (λ (f : Folded). f .table) (fold-front n st t u)
+
+  -- Where the front has room for all records, they are those of the whole table.
+  pub records-front : 8 * recordsOf (foldNodes st t u .state) ≤ n
+      → take (8 * recordsOf (foldNodes st t u .state)) (foldNodes st (take n t) u .table) ≡ take (8 * recordsOf (foldNodes st t u .state)) (foldNodes st t u .table)
+  records-front h = ap (take (8 * recordsOf (foldNodes st t u .state))) table-front ∙ take-take (8 * recordsOf (foldNodes st t u .state)) n (foldNodes st t u .table) h
+
+-- The same of a table that is lengthened.
+module _ (st : State) (t more : List ℤ) (u : Nodes) where
+  as-front : foldNodes st t u ≡ foldNodes st (take (length t) (t ++ more)) u
+  as-front = ap (λ (x : List ℤ). foldNodes st x u) (sym (take-append-seam t more))
+
+  pub state-longer : foldNodes st t u .state ≡ foldNodes st (t ++ more) u .state
+  state-longer = ap (λ (f : Folded). f .state) as-front ∙ state-front (length t) st (t ++ more) u
+
+  pub rows-longer : (k : ℕ) → k ≤ length t → take k (foldNodes st t u .table) ≡ take k (foldNodes st (t ++ more) u .table)
+  rows-longer k h =
+      ap (λ (f : Folded). take k (f .table)) as-front
+      ∙ ap (take k) (table-front (length t) st (t ++ more) u)
+      ∙ take-take k (length t) (foldNodes st (t ++ more) u .table) h
