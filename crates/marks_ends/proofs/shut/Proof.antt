@@ -1,0 +1,34 @@
+use Rattle.marks_ends.proofs.Shutting.{Shutting, shut-loop}
+use Prim.Native.Nat.{_-_}
+use Rattle.marks_ends.proofs.shut.Statement.{statement}
+use Rattle.marks_ends.proofs.shut.Tie as tie
+
+abbrev Inv-loop : tie.InvT-loop
+Inv-loop s from to at n i₀ i = Shutting s from to at i
+
+abbrev μ-loop : tie.MeasureT-loop
+μ-loop s from to at n i₀ i = n - i
+
+pub shut-spec : {M : Type 1} → statement M
+shut-spec =
+    tie.close (tie.spec
+    Inv-loop
+    μ-loop
+    (λ c. search shut-loop)
+    (λ c. search shut-loop)
+    (λ c. search shut-loop)
+    (λ c. search shut-loop)
+    (λ c. search shut-loop)
+    (λ c. search shut-loop)
+    (λ c. search shut-loop)
+    (λ c. search shut-loop)
+    (λ c. search shut-loop)
+    (λ c. search shut-loop)
+    (λ c. search shut-loop)
+    (λ c. search shut-loop)
+    (λ c. search shut-loop)
+    (λ c. search shut-loop)
+    (λ c. search shut-loop)
+    (λ c. search shut-loop)
+    (λ c. search shut-loop)
+    (λ c. search shut-loop))

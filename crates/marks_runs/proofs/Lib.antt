@@ -1,0 +1,3 @@
+pub mod Running
+pub mod Told
+pub mod Once
