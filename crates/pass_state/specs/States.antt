@@ -1,0 +1,26 @@
+-- The state of the pass, as plain numbers, and what it stands for.
+use Prim.Native.Nat.{ℕ, _≤_}
+use Rattle.rules_judge.specs.declared.Said.{Said}
+use Rattle.judges_state.specs.Decoded.{judgeOf, Placed}
+use Rattle.judges_state.specs.Steps.{leafBy}
+use Rattle.gauges_state.specs.Flat.{gaugeOf, Kept}
+use Rattle.pass_sums.specs.Sums.{recordsOf}
+use Rattle.pass_sums.specs.declared.State.{State as Summed}
+use Rattle.pass_state.specs.declared.State.{State}
+
+unfoldable pub stateOf : State → Summed
+stateOf st = record { judge = judgeOf (st .judge); gauge = gaugeOf (st .gauge); root = st .gauge .root }
+
+-- what holds of every state that is met
+pub record Fits (st : State) : Type 0 where
+  pub placed : Placed (st .judge)
+  pub kept : Kept (st .gauge)
+  pub few : st .gauge .records ≤ 4096
+
+-- the state behind a plain leaf
+unfoldable pub leafOf : Summed → ℕ → ℕ → ℕ → Said → Summed
+leafOf st p child entry said = record { judge = leafBy (st .judge) p child entry said; gauge = st .gauge; root = st .root }
+
+unfoldable pub states-page : Unit {0}
+unfolding stateOf leafOf
+states-page = tt
