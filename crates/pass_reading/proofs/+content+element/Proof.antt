@@ -1,0 +1,305 @@
+use Prim.Native.Nat.{ℕ, _<_, _+_, _-_, _*_}
+use lib.ListN.{length}
+use Rattle.pass_state.specs.States.{stateOf}
+use Rattle.pass_reading.proofs.Contents.{Going, still-fits, run-read, run-low, run-high, run-solid-high, run-solid-is, run-less, rare-read, content-loop}
+use Rattle.marks_cuts.proofs.Sorts.{other-sort}
+use mathlib.Core.Path.{_∙_}
+use native.Mathlib.Omega.{arith}
+use Rattle.pass_reading.proofs.Elements.{short-read, refused-inside, refused-end, long-read, name-high, name-there, tag-high, inside-fits, inside-tag, inside-room, inside-eight, element-ways}
+use borrow.Fn.Kinds.{In}
+use borrow.Fn.PlainCycle.{Measures, is, falls, and}
+use Rattle.pass_reading.proofs.content.Reads as content
+use Rattle.pass_reading.proofs.content.Kinds as content-kinds
+use Rattle.pass_reading.proofs.+content+element.Lts-content as content-lts
+use Rattle.pass_reading.proofs.element.Reads as element
+use Rattle.pass_reading.proofs.element.Kinds as element-kinds
+use Rattle.pass_reading.proofs.+content+element.Lts-element as element-lts
+use Rattle.judges_tables.proofs.entry_of.Reads as entry-of-reads
+use Rattle.marks_ends.proofs.close.Reads as close-reads
+use Rattle.marks_ends.proofs.end_tag.Reads as end-tag-reads
+use Rattle.marks_runs.proofs.run_at.Reads as run-at-reads
+use Rattle.marks_sorts.proofs.sort_of.Reads as sort-of-reads
+use Rattle.naming_elements.proofs.element_name.Reads as element-name-reads
+use Rattle.pass_marks.proofs.rare_at.Reads as rare-at-reads
+use Rattle.pass_reading.proofs.is_outside.Reads as is-outside-reads
+use Rattle.pass_reading.proofs.is_over.Reads as is-over-reads
+use Rattle.pass_reading.proofs.is_stray.Reads as is-stray-reads
+use Rattle.pass_reading.proofs.stray_number.Reads as stray-number-reads
+use Rattle.pass_reading.proofs.wide.Reads as wide-reads
+use Rattle.pass_state.proofs.enter.Reads as enter-reads
+use Rattle.pass_state.proofs.leave.Reads as leave-reads
+use Rattle.pass_state.proofs.with_rare.Reads as with-rare-reads
+use Rattle.pass_state.proofs.with_run.Reads as with-run-reads
+use Rattle.pass_steps.proofs.begin.Reads as begin-reads
+use Rattle.tags.proofs.start_tag.Reads as start-tag-reads
+use Rattle.pass_reading.proofs.+content+element.{statement}
+use Rattle.pass_reading.proofs.+content+element.Tie.{close}
+
+abbrev μ-content : Measures 2 content-kinds.ps ℕ
+μ-content κs a = 2 * a .1 .1 .0 + 1
+
+abbrev μ-element : Measures 2 element-kinds.ps ℕ
+μ-element κs a = 2 * a .1 .1 .0
+
+abbrev content-at : ℕ → In 2 content-kinds.ps
+content-at t = and 2 content-kinds.ps (is 2 content-kinds.ps μ-content t) content.Pre
+
+abbrev content-below : ℕ → In 2 content-kinds.ps
+content-below t = and 2 content-kinds.ps (falls 2 content-kinds.ps _<_ μ-content t) content.Pre
+
+abbrev element-at : ℕ → In 2 element-kinds.ps
+element-at t = and 2 element-kinds.ps (is 2 element-kinds.ps μ-element t) element.Pre
+
+abbrev element-below : ℕ → In 2 element-kinds.ps
+element-below t = and 2 element-kinds.ps (falls 2 element-kinds.ps _<_ μ-element t) element.Pre
+
+abbrev content-Inv-loop : content-lts.InvT-loop
+content-Inv-loop s at left begun rows₀ i₀ b₀ sum₀ rows i b sum = Going s left at begun (stateOf sum₀) rows₀ i b sum rows
+
+abbrev content-μ-loop : content-lts.MeasureT-loop
+content-μ-loop s at left begun rows₀ i₀ b₀ sum₀ rows i b sum = length s - i
+
+pub +content+element-spec : {M : Type 1} → statement M
++content+element-spec = close μ-content μ-element (λ t. content-lts.spec (
+  sort-of-reads.Asked,
+  sort-of-reads.Learnt,
+  element-below t,
+  element.Post,
+  run-at-reads.Asked,
+  run-at-reads.Learnt,
+  is-stray-reads.Asked,
+  is-stray-reads.Learnt,
+  with-run-reads.Asked,
+  with-run-reads.Learnt,
+  end-tag-reads.Asked,
+  end-tag-reads.Learnt,
+  stray-number-reads.Asked,
+  stray-number-reads.Learnt,
+  rare-at-reads.Asked,
+  rare-at-reads.Learnt,
+  is-outside-reads.Asked,
+  is-outside-reads.Learnt,
+  with-rare-reads.Asked,
+  with-rare-reads.Learnt,
+  is-over-reads.Asked,
+  is-over-reads.Learnt,
+)
+    (content-at t)
+    content.Post
+    content-Inv-loop
+    content-μ-loop
+    (λ c. search content-loop)
+    (λ c κs. search content-loop)
+    (λ c κs. search content-loop)
+    (λ c. search content-loop)
+    (λ c. search content-loop)
+    (λ c. search content-loop)
+    (λ c. search content-loop)
+    (λ c κs. search content-loop)
+    (λ c. search content-loop)
+    (λ c. search content-loop)
+    (λ c κs. search content-loop)
+    (λ c. search content-loop)
+    (λ c. search content-loop)
+    (λ c κs. let missed = c in
+    let stray = missed .before in
+    let solid = stray .before in
+    let run = solid .before .before in
+    let loop = run .before .before .before .before .before in
+    let known = loop .before .before .pre .1 in
+    let v = loop .loop .inv in
+    let w = run .run-at .ensures .0 in
+    (run-low v (known .1) w (solid .if4 .left) (stray .is-stray .ensures), run-high v (known .1) w (solid .if4 .left) (stray .is-stray .ensures), known .5, run-solid-high v (known .1) w (solid .if4 .left) (stray .is-stray .ensures), run-solid-is v (known .1) w (solid .if4 .left) (stray .is-stray .ensures), still-fits v))
+    (λ c. let missed = c .before in
+    let stray = missed .before in
+    let solid = stray .before in
+    let run = solid .before .before in
+    let loop = run .before .before .before .before .before in
+    let known = loop .before .before .pre .1 in
+    run-less (loop .loop .inv) (known .1) (run .run-at .ensures .0) (solid .if4 .left) (stray .is-stray .ensures))
+    (λ c. let missed = c .before in
+    let stray = missed .before in
+    let solid = stray .before in
+    let run = solid .before .before in
+    let loop = run .before .before .before .before .before in
+    let known = loop .before .before .pre .1 in
+    run-read (loop .loop .inv) (known .1) (run .run-at .ensures .0) (solid .if4 .left) (stray .is-stray .ensures) _ (missed .if5 .left) (c .with-run .ensures .0) (c .with-run .ensures .1) (c .with-run .ensures .2))
+    (λ c κs. search content-loop)
+    (λ c κs. search content-loop)
+    (λ c. search content-loop)
+    (λ c. search content-loop)
+    (λ c. search content-loop)
+    (λ c. search content-loop)
+    (λ c κs. search content-loop)
+    (λ c. search content-loop)
+    (λ c. search content-loop)
+    (λ c κs. search content-loop)
+    (λ c. search content-loop)
+    (λ c. search content-loop)
+    (λ c κs. search content-loop)
+    (λ c. search content-loop)
+    (λ c. let missed = c .before in
+    let outer = missed .before in
+    let clean = outer .before in
+    let rare = clean .before .before in
+    let third = rare .before in
+    let second = third .before in
+    let first = second .before in
+    let sort = first .before in
+    let loop = sort .before .before in
+    let known = loop .before .before .pre .1 in
+    rare-read (loop .loop .inv) (known .1) (other-sort (loop .before .before .args .s .now) (loop .loop .i) (sort .sort-of .ensures .0) (sort .sort-of .ensures .1) (first .if1 .left) (third .if6 .left) (second .if3 .left)) (rare .rare-at .ensures) (clean .if8 .left) (outer .is-outside .ensures) _ (missed .if9 .left) (c .with-rare .ensures .0) (c .with-rare .ensures .1) (c .with-rare .ensures .2))
+    (λ c κs. search content-loop)
+    (λ c. search content-loop)
+    (λ c. search content-loop)
+    (λ c. search content-loop)
+    (λ c. search content-loop))
+    λ t. element-lts.spec (
+      element-name-reads.Asked,
+      element-name-reads.Learnt,
+      start-tag-reads.Asked,
+      start-tag-reads.Learnt,
+      begin-reads.Asked,
+      begin-reads.Learnt,
+      wide-reads.Asked,
+      wide-reads.Learnt,
+      entry-of-reads.Asked,
+      entry-of-reads.Learnt,
+      enter-reads.Asked,
+      enter-reads.Learnt,
+      leave-reads.Asked,
+      leave-reads.Learnt,
+      content-below t,
+      content.Post,
+      close-reads.Asked,
+      close-reads.Learnt,
+    )
+    (element-at t)
+    element.Post
+    (λ c. search element-ways)
+    (λ c κs. search element-ways)
+    (λ c. search element-ways)
+    (λ c κs. search element-ways)
+    (λ c. search element-ways)
+    (λ c κs. search element-ways)
+    (λ c. search element-ways)
+    (λ c κs. search element-ways)
+    (λ c κs. search element-ways)
+    (λ c κs. let listed = c in
+    let wide = listed .before in
+    let begun = wide .before .before in
+    let begin = begun .before in
+    let there = begin .before in
+    let tag = there .before .before in
+    let named = tag .before in
+    let name = named .before in
+    let known = name .before .before .pre .1 in
+    let n = name .element-name .ensures in
+    (rw (wide .wide .ensures) (tag .start-tag .ensures), there .if2 .left, wide .wide .ensures ∙ n .1 .0, listed .entry-of .ensures, omega (arith, known .0, known .6), known .4, omega (arith, known .5, begin .begin .ensures .2, begun .if3 .left)))
+    (λ c. search element-ways)
+    (λ c κs. let entered = c .before .before in
+    let listed = entered .before in
+    let wide = listed .before in
+    let begun = wide .before .before in
+    let begin = begun .before in
+    let there = begin .before in
+    let tag = there .before .before in
+    let named = tag .before in
+    let name = named .before in
+    let known = name .before .before .pre .1 in
+    let n = name .element-name .ensures in
+    (rw (wide .wide .ensures) (tag .start-tag .ensures), there .if2 .left, wide .wide .ensures ∙ n .1 .0, listed .entry-of .ensures, omega (arith, known .0, known .6), known .4, entered .enter .ensures .1, known .7))
+    (λ c. search element-ways)
+    (λ c. let entered = c .before .before .before .before in
+    let listed = entered .before in
+    let wide = listed .before in
+    let begun = wide .before .before in
+    let begin = begun .before in
+    let there = begin .before in
+    let tag = there .before .before in
+    let named = tag .before in
+    let name = named .before in
+    let known = name .before .before .pre .1 in
+    let n = name .element-name .ensures in
+    let left = c .before .leave .ensures in
+    short-read _ _ _ _ _ _ (known .1) (n .0) _ (named .if1 .left) (tag .start-tag .ensures) (there .if2 .left) (begin .begin .ensures .0) (begun .if3 .left) _ _ (c .before .before .before .if4 .taken) (begin .begin .ensures .2) (known .5) (entered .enter .ensures .0) (entered .enter .ensures .2) (left .0 .0) (left .0 .1) (left .0 .2) (left .1 .0) (left .1 .1))
+    (λ c. search element-ways)
+    (λ c. search element-ways)
+    (λ c κs. let entered = c .before .before in
+    let listed = entered .before in
+    let wide = listed .before in
+    let begun = wide .before .before in
+    let begin = begun .before in
+    let there = begin .before in
+    let tag = there .before .before in
+    let named = tag .before in
+    let name = named .before in
+    let known = name .before .before .pre .1 in
+    let n = name .element-name .ensures in
+    (omega (arith, begin .begin .ensures .1, begun .if3 .left), (tag-high (tag .start-tag .ensures), omega (arith, known .2), omega (arith, begin .begin .ensures .2, begun .if3 .left), entered .enter .ensures .1, omega (arith, known .5, entered .enter .ensures .2), known .6, known .7)))
+    (λ c. search element-ways)
+    (λ c. let entered = c .before .before .before .before .before .before in
+    let listed = entered .before in
+    let wide = listed .before in
+    let begun = wide .before .before in
+    let begin = begun .before in
+    let there = begin .before in
+    let tag = there .before .before in
+    let named = tag .before in
+    let name = named .before in
+    let known = name .before .before .pre .1 in
+    let n = name .element-name .ensures in
+    refused-inside _ _ _ _ _ _ (known .1) (n .0) _ (named .if1 .left) (tag .start-tag .ensures) (there .if2 .left) (begin .begin .ensures .0) (begun .if3 .left) (c .before .before .before .before .before .if4 .left) (begin .begin .ensures .1) _ _ (c .before .before .before .content .ensures) (c .if5 .taken))
+    (λ c κs. let entered = c .before .before .before .before .before .before .before in
+    let listed = entered .before in
+    let wide = listed .before in
+    let begun = wide .before .before in
+    let begin = begun .before in
+    let there = begin .before in
+    let tag = there .before .before in
+    let named = tag .before in
+    let name = named .before in
+    let known = name .before .before .pre .1 in
+    let n = name .element-name .ensures in
+    let read = c .before .before .before .before in
+    (name-there (n .0) (named .if1 .left), name-high (n .0), n .0, inside-room _ (read .content .ensures) (c .before .if5 .left) (omega (arith, known .2, begin .begin .ensures .1, begun .if3 .left)), inside-tag _ (read .content .ensures) (c .before .if5 .left) (omega (arith, known .2, begin .begin .ensures .1, begun .if3 .left))))
+    (λ c. search element-ways)
+    (λ c. let entered = c .before .before .before .before .before .before .before .before .before .before in
+    let listed = entered .before in
+    let wide = listed .before in
+    let begun = wide .before .before in
+    let begin = begun .before in
+    let there = begin .before in
+    let tag = there .before .before in
+    let named = tag .before in
+    let name = named .before in
+    let known = name .before .before .pre .1 in
+    let n = name .element-name .ensures in
+    refused-end _ _ _ _ _ _ (known .1) (n .0) _ (named .if1 .left) (tag .start-tag .ensures) (there .if2 .left) (begin .begin .ensures .0) (begun .if3 .left) (c .before .before .before .before .before .before .before .before .before .if4 .left) (begin .begin .ensures .1) _ _ (c .before .before .before .before .before .before .before .content .ensures) (c .before .before .before .before .if5 .left) (c .before .before .close .ensures .0) _ _ (c .if6 .taken))
+    (λ c κs. let entered = c .before .before .before .before .before .before .before .before .before .before .before in
+    let listed = entered .before in
+    let wide = listed .before in
+    let begun = wide .before .before in
+    let begin = begun .before in
+    let there = begin .before in
+    let tag = there .before .before in
+    let named = tag .before in
+    let name = named .before in
+    let known = name .before .before .pre .1 in
+    let n = name .element-name .ensures in
+    let read = c .before .before .before .before .before .before .before .before in
+    (rw (wide .wide .ensures) (tag .start-tag .ensures), there .if2 .left, wide .wide .ensures ∙ n .1 .0, listed .entry-of .ensures, omega (arith, known .0, known .6), known .4, inside-fits _ (read .content .ensures) (c .before .before .before .before .before .if5 .left), inside-eight _ (read .content .ensures) (c .before .before .before .before .before .if5 .left) (known .7)))
+    (λ c. search element-ways)
+    (λ c. let entered = c .before .before .before .before .before .before .before .before .before .before .before .before .before in
+    let listed = entered .before in
+    let wide = listed .before in
+    let begun = wide .before .before in
+    let begin = begun .before in
+    let there = begin .before in
+    let tag = there .before .before in
+    let named = tag .before in
+    let name = named .before in
+    let known = name .before .before .pre .1 in
+    let n = name .element-name .ensures in
+    let left = c .before .leave2 .ensures in
+    long-read _ _ _ _ _ _ (known .1) (n .0) _ (named .if1 .left) (tag .start-tag .ensures) (there .if2 .left) (begin .begin .ensures .0) (begun .if3 .left) (c .before .before .before .before .before .before .before .before .before .before .before .before .if4 .left) (begin .begin .ensures .1) _ _ (c .before .before .before .before .before .before .before .before .before .before .content .ensures) (c .before .before .before .before .before .before .before .if5 .left) (c .before .before .before .before .before .close .ensures .0) _ (c .before .before .before .if6 .left) (entered .enter .ensures .0) (left .0 .0) (left .0 .1) (left .0 .2) (left .1 .0) (left .1 .1))

@@ -1,0 +1,3 @@
+pub mod Standing
+pub mod Elements
+pub mod Contents
