@@ -44,7 +44,7 @@ use Rattle.pass_state.specs.States.{stateOf, Fits}
 use Rattle.pass_state.specs.declared.State.{State}
 use Rattle.pass_reading.specs.Reading.{ElementReads, ContentReads}
 use Rattle.pass_reading.specs.declared.Reached.{Reached}
-use Rattle.pass_reading.proofs.Elements.{counted}
+use Rattle.pass_reading.proofs.Leaves.{counted}
 
 -- the way so far
 pub record Going (s : List ℕ) (left at b₀ : ℕ) (st₀ : Summed) (t₀ : List ℤ) (i b : ℕ) (st : State) (t : List ℤ) : Type 0 where

@@ -1,32 +1,30 @@
 -- Reading an element, one law for each way through the code.
-use mathlib.Core.Path.{_≡_, refl, sym, ap, _∙_}
+use mathlib.Core.Path.{_≡_, refl, _∙_}
 use mathlib.Core.List.{List, [], _∷_}
 use mathlib.Core.Bool.{Bool, true, false, _&&_}
 use mathlib.Core.Logic.{_⊎_, ⊎-elim}
-use Prim.Native.Nat.{ℕ, _+_, _-_, _*_, _%_, _≤_, _<_}
+use Prim.Native.Nat.{ℕ, _+_, _-_, _≤_, _<_}
 use native.Mathlib.Omega.{arith}
 use borrow.Author.Needs.{needs}
 use lib.IntN.{ℤ}
 use lib.Dec.{eqb}
 use lib.ListN.{length, drop, getD, drop-of-length-le}
-use Rattle.cdi.specs.Words.{same, begins}
+use Rattle.cdi.specs.Words.{begins}
 use Rattle.cdi.specs.Pieces.{attributes}
 use Rattle.cdi.proofs.Quiet.{impossible}
 use Rattle.scan.proofs.Along.{drop-next}
 use Rattle.scan.proofs.Tests.{lt-or-le}
-use Rattle.names.specs.Names.{elementNumber}
 use Rattle.pieces_cuts.specs.Places.{part, Name}
 use Rattle.pieces_cuts.specs.Cuts.{Stands}
-use Rattle.marks_cuts.specs.Marks.{sortAt, startCut, finishCut, badCut}
+use Rattle.marks_cuts.specs.Marks.{sortAt, startCut, badCut}
 use Rattle.marks_cuts.proofs.Tags.{unnamed}
 use Rattle.marks_ends.specs.Ends.{Closes}
 use Rattle.marks_ends.proofs.Told.{close-bad, own-tag, own-name, own-ahead, other-tag, other-name, close-refused}
 use Rattle.tags.specs.Reads.{Reads}
 use Rattle.tags.specs.declared.Tag.{Tag}
 use Rattle.pass_steps.specs.Asks.{stepOf, beginFault}
-use Rattle.pass_sums.specs.Sums.{recordsOf, enterOf, leaveOf, writtenOf}
+use Rattle.pass_sums.specs.Sums.{enterOf, leaveOf, writtenOf}
 use Rattle.pass_sums.specs.declared.State.{State as Summed}
-use Rattle.gauges_state.specs.Flat.{gaugeOf}
 use Rattle.pass_laws.specs.Passing.{Passed, Fails}
 use Rattle.pass_laws.proofs.Steps.{stop-fails, fails-later, not-begun, short-element, fails-inside, another, long-element}
 use Rattle.pass_state.specs.States.{stateOf, Fits}
@@ -34,11 +32,15 @@ use Rattle.pass_state.specs.declared.State.{State}
 use Rattle.pass_reading.specs.Reading.{ElementReads, ContentReads}
 use Rattle.pass_reading.specs.declared.Reached.{Reached}
 use Rattle.pass_reading.proofs.Standing.{bad-tag, start-tag}
+use Rattle.pass_reading.proofs.Leaves.{counted}
 
--- the records that a state counts
-pub counted : (st : State) → recordsOf (stateOf st) ≡ st .gauge .records
-unfolding recordsOf stateOf gaugeOf
-counted st = refl
+-- what is known behind the content of an element, in the short form or behind its end tag: leaving it gives the element
+pub record Ended (s : List ℕ) (left at b : ℕ) (st : State) (t : List ℤ) (n p b′ : ℕ) (last : State) (t₁ : List ℤ) : Type 0 where
+  pub fits : Fits last
+  pub long : length t₁ ≡ length t
+  pub reads : (st′ : State) {t′ : List ℤ} → stateOf st′ ≡ leaveOf (stateOf st) at (part s (at + 1) n) (attributes 0 (drop n s)) (stateOf last) → Fits st′ → st′ .gauge .records ≤ last .gauge .records
+      → t′ ≡ writtenOf (stateOf st) at (part s (at + 1) n) (attributes 0 (drop n s)) (stateOf last) t₁ → length t′ ≡ length t₁
+      → ElementReads s left at b (stateOf st) t t′ (record { number = 0; place = p; begun = b′; state = st′ })
 
 -- ── answers ──
 
@@ -68,13 +70,15 @@ module _ (s : List ℕ) (left at b : ℕ) (st : State) (t : List ℤ) {n : ℕ} 
       refused-tag x w q = refused-here s left at b (stateOf st) t t m at x w q (not-begun s left at b (stateOf st) t (start-tag s at p v z r y) refl f q)
 
       module _ (q : m ≡ 0) where
-        pub short-read : (inner st′ : State) {t′ : List ℤ} → tag .short ≡ true → b + 1 ≤ 4096 + m → st .gauge .records ≤ b → stateOf inner ≡ enterOf (stateOf st) at (part s (at + 1) n) (attributes 0 (drop n s)) → inner .gauge .records ≤ st .gauge .records + 1
-            → stateOf st′ ≡ leaveOf (stateOf st) at (part s (at + 1) n) (attributes 0 (drop n s)) (stateOf inner) → Fits st′ → st′ .gauge .records ≤ inner .gauge .records
-            → t′ ≡ writtenOf (stateOf st) at (part s (at + 1) n) (attributes 0 (drop n s)) (stateOf inner) t → length t′ ≡ length t
-            → ElementReads s left at b (stateOf st) t t′ (record { number = 0; place = tag .end; begun = b + 1; state = st′ })
-        short-read inner st′ {t′} k l few i fi o fit fo w long = read-here s left at b (stateOf st) t t′ (tag .end) (b + 1) st′
-            (short-element s left at b (stateOf st) t u refl f q k (omega arith) (omega (arith, counted st)) i (omega (arith, counted st, counted inner)) o w (omega (arith, counted st′, counted inner)) long)
-            (u .cut .low) fit
+        pub short-ended : (inner : State) → tag .short ≡ true → b + 1 ≤ 4096 + m → st .gauge .records ≤ b → stateOf inner ≡ enterOf (stateOf st) at (part s (at + 1) n) (attributes 0 (drop n s)) → Fits inner → inner .gauge .records ≤ st .gauge .records + 1
+            → {p′ b′ : ℕ} {last : State} {t′ : List ℤ} → p′ ≡ tag .end → b′ ≡ b + 1 → last ≡ inner → t′ ≡ t → Ended s left at b st t n p′ b′ last t′
+        short-ended inner k l few i fit fi ep eb el et = rw (ep, eb, el, et) (record {
+          fits = fit;
+          long = refl;
+          reads = λ st′ {t′} o fit′ fo w long. read-here s left at b (stateOf st) t t′ (tag .end) (b + 1) st′
+              (short-element s left at b (stateOf st) t u refl f q k (omega arith) (omega (arith, counted st)) i (omega (arith, counted st, counted inner)) o w (omega (arith, counted st′, counted inner)) long)
+              (u .cut .low) fit′;
+        })
           where
             u : Stands s at (startCut at n (tag .end) (tag .short) (tag .refers))
             u = start-tag s at p v z r y
@@ -102,13 +106,15 @@ module _ (s : List ℕ) (left at b : ℕ) (st : State) (t : List ℤ) {n : ℕ} 
                   other : j ≡ 6 → Fails s left at b j (in′ .place)
                   other a = rw a (another s left at b (stateOf st) t (start-tag s at p v z r y) refl f q k one-left (c .done h) (other-tag o a) refl (other-name o a))
 
-              pub long-read : (st′ : State) {t′ : List ℤ} → j ≡ 0 → stateOf inner ≡ enterOf (stateOf st) at (part s (at + 1) n) (attributes 0 (drop n s))
-                  → stateOf st′ ≡ leaveOf (stateOf st) at (part s (at + 1) n) (attributes 0 (drop n s)) (stateOf (in′ .state)) → Fits st′ → st′ .gauge .records ≤ in′ .state .gauge .records
-                  → t′ ≡ writtenOf (stateOf st) at (part s (at + 1) n) (attributes 0 (drop n s)) (stateOf (in′ .state)) t₁ → length t′ ≡ length t₁
-                  → ElementReads s left at b (stateOf st) t t′ (record { number = 0; place = g; begun = in′ .begun; state = st′ })
-              long-read st′ {t′} d i a fit fa w long = read-here s left at b (stateOf st) t t′ g (in′ .begun) st′
-                  (long-element s left at b (stateOf st) t (start-tag s at p v z r y) refl f q k one-left (c .done h) (own-tag o d) refl (own-name o d) i a w (omega (arith, counted st′, counted (in′ .state))) long)
-                  (omega (arith, start-tag s at p v z r y .cut .low, c .done h .low, own-ahead o d)) fit
+              pub long-ended : j ≡ 0 → stateOf inner ≡ enterOf (stateOf st) at (part s (at + 1) n) (attributes 0 (drop n s))
+                  → {p′ b′ : ℕ} {last : State} {t′ : List ℤ} → p′ ≡ g → b′ ≡ in′ .begun → last ≡ in′ .state → t′ ≡ t₁ → Ended s left at b st t n p′ b′ last t′
+              long-ended d i ep eb el et = rw (ep, eb, el, et) (record {
+                fits = c .fits h;
+                long = c .done h .long;
+                reads = λ st′ {t′} a fit fa w long. read-here s left at b (stateOf st) t t′ g (in′ .begun) st′
+                    (long-element s left at b (stateOf st) t (start-tag s at p v z r y) refl f q k one-left (c .done h) (own-tag o d) refl (own-name o d) i a w (omega (arith, counted st′, counted (in′ .state))) long)
+                    (omega (arith, start-tag s at p v z r y .cut .low, c .done h .low, own-ahead o d)) fit;
+              })
 
 -- ── what the next step is asked for ──
 
@@ -142,16 +148,10 @@ two-bytes s q e = ⊎-elim
         no false z = impossible (cc)
 
 module _ {s : List ℕ} {left at b : ℕ} {st : Summed} {t t′ : List ℤ} (r : Reached) (c : ContentReads s left at b st t t′ r) (z : r .number ≡ 0) where
-  pub inside-fits : Fits (r .state)
-  inside-fits = c .fits z
-
   pub inside-tag : left < 24 → begins (60 ∷ 47 ∷ []) (drop (r .place) s) ≡ true
   inside-tag l = c .tag z (λ e. omega arith)
 
   pub inside-room : left < 24 → r .place + 2 ≤ length s
   inside-room l = two-bytes s (r .place) (inside-tag l)
 
-  pub inside-eight : length t % 8 ≡ 0 → length t′ % 8 ≡ 0
-  inside-eight e = rw (c .done z .long) e
-
-pub ruleset element-ways = (no-name, no-tag, refused-tag, short-read, refused-inside, refused-end, long-read, name-high, name-there, tag-high, wide-number, inside-fits, inside-tag, inside-room, inside-eight, needs)
+pub ruleset element-ways = (no-name, name-high, name-there, tag-high, wide-number, needs)

@@ -1,3 +1,4 @@
 pub mod Standing
+pub mod Leaves
 pub mod Elements
 pub mod Contents

@@ -1,9 +1,12 @@
 // Elements and their content. Reading an element calls reading content, which calls reading an element for each child, and the depth left of 24
-// falls. With all 24 levels left nothing is open: what stands around the root is read by the same loop.
+// falls. With all 24 levels left nothing is open: what stands around the root is read by the same loop. A plain leaf is read without a call.
 
+use judges_leaf::is_leaf_good;
+use judges_leaf::leaf_said;
 use judges_tables::entry_of;
 use marks_ends::close;
 use marks_ends::end_tag;
+use marks_leaf::leaf_at;
 use marks_runs::run_at;
 use marks_sorts::sort_of;
 use naming_elements::element_name;
@@ -12,18 +15,21 @@ use pass_state::State;
 use pass_state::enter;
 use pass_state::leave;
 use pass_state::start;
+use pass_state::with_leaf;
 use pass_state::with_rare;
 use pass_state::with_run;
 use pass_steps::begin;
 use tags::start_tag;
 ghost use mathlib.Core.Path.{_≡_};
 ghost use mathlib.Core.Bool.{cond, not, _&&_};
-ghost use Prim.Native.Nat.{_%_, _≤_, _<_};
+ghost use Prim.Native.Nat.{_+_, _%_, _≤_, _<_};
 ghost use lib.Dec.{eqb, ltb};
 ghost use lib.ListN.{length, drop};
+ghost use Rattle.pieces_cuts.specs.Places.{Name};
 ghost use Rattle.marks_cuts.specs.Marks.{sortAt};
 ghost use Rattle.pass_sums.specs.Sums.{atFirst};
 ghost use Rattle.pass_state.specs.States.{stateOf, Fits};
+ghost use Rattle.pass_reading.specs.Leaves.{Plainly};
 ghost use Rattle.pass_reading.specs.Reading.{ElementReads, ContentReads};
 
 // Where reading has come: `number` is 0, or that of the refusal, whose place `place` is then. Of a refused text the other two say nothing.
@@ -71,6 +77,68 @@ fn is_over(left: usize, begun: usize) -> bool
     (left == 24) & (begun != 0)
 }
 
+// A plain leaf: the place behind it, and what it says. Where `end` is 0, it isn't known to be one.
+struct Leaf {
+    pub end: usize,
+    pub said: usize,
+    pub magnitude: u64,
+}
+
+fn no_leaf() -> Leaf
+    ensures { λ r. ⌜ r .end ≡ 0 ⌝ }
+{
+    Leaf {
+        end: 0,
+        said: 0,
+        magnitude: 0,
+    }
+}
+
+// The element at this place as a plain leaf: it holds text only, stands in a later entry than `last` and inside the root, and is a good number where it
+// must be one. `number` is that of its tag's own fault.
+fn plain_leaf(
+    s: &[u8],
+    at: usize,
+    behind: usize,
+    number: usize,
+    child: usize,
+    entry: usize,
+    last: usize,
+    level: usize,
+    numeric: bool,
+) -> Leaf
+    requires { ⌜ (sortAt (drop at (now s)) ≡ 0) × Name (now s) (at + 1) behind × (at + 1 < behind) × (behind ≤ length (now s)) ⌝ }
+    ensures { λ r. ⌜ ((r .end ≡ 0 → ⊥) → Plainly (now (s .entry)) at behind number child entry last level numeric r) ⌝ }
+{
+    if number != 0 {
+        return no_leaf();
+    }
+    if child < 12 {
+        return no_leaf();
+    }
+    if entry <= last {
+        return no_leaf();
+    }
+    if level == 0 {
+        return no_leaf();
+    }
+    let leaf = leaf_at(s, at, behind);
+    if leaf.end == 0 {
+        return no_leaf();
+    }
+    let first = behind + 1;
+    let to = leaf.to;
+    let word = leaf_said(numeric, child, &s[first..to]);
+    if is_leaf_good(numeric, child, word.said) {
+        return Leaf {
+            end: leaf.end,
+            said: word.said,
+            magnitude: word.magnitude,
+        };
+    }
+    no_leaf()
+}
+
 // The element whose `<` stands at this place, with `left` of the 24 levels for it and `begun` elements before it.
 fn element(s: &[u8], at: usize, left: usize, begun: usize, st: State, rows: &mut [i64]) -> Reached
     requires { ⌜ (at < length (now s)) × (sortAt (drop at (now s)) ≡ 0) × (left ≤ 24) × (begun ≤ 4096) × Fits st × (st .gauge .records ≤ begun) × (length (now s) ≤ 65535) × (length (now rows) % 8 ≡ 0) ⌝ }
@@ -85,6 +153,30 @@ fn element(s: &[u8], at: usize, left: usize, begun: usize, st: State, rows: &mut
             place: at,
             begun,
             state: st,
+        };
+    }
+    let judge = st.judge;
+    let gauge = st.gauge;
+    let child = wide(name.number);
+    let entry = entry_of(judge.row, child);
+    let clear = begin(false, left, begun);
+    let leaf = plain_leaf(
+        s,
+        at,
+        behind,
+        clear,
+        child,
+        entry,
+        judge.last,
+        gauge.level,
+        judge.numeric,
+    );
+    if leaf.end != 0 {
+        return Reached {
+            number: 0,
+            place: leaf.end,
+            begun: begun + 1,
+            state: with_leaf(at, child, entry, leaf.said, leaf.magnitude, st),
         };
     }
     let tag = start_tag(s, behind, name.number);
@@ -105,36 +197,32 @@ fn element(s: &[u8], at: usize, left: usize, begun: usize, st: State, rows: &mut
             state: st,
         };
     }
-    let judge = st.judge;
-    let child = wide(name.number);
-    let entry = entry_of(judge.row, child);
     let inner = enter(s, at, behind, child, entry, tag, st);
-    if tag.short {
-        return Reached {
-            number: 0,
-            place: tag.end,
-            begun: begun + 1,
-            state: leave(s, at, behind, child, entry, tag, st, inner, rows),
-        };
-    }
-    let inside = content(s, tag.end, left - 1, begun + 1, inner, rows);
-    if inside.number != 0 {
-        return inside;
-    }
-    let last = inside.state;
-    let end = close(s, from, behind, inside.place);
-    if end.number != 0 {
-        return Reached {
-            number: end.number,
-            place: inside.place,
-            begun,
-            state: st,
-        };
+    let mut last = inner;
+    let mut place = tag.end;
+    let mut count = begun + 1;
+    if !tag.short {
+        let inside = content(s, tag.end, left - 1, begun + 1, inner, rows);
+        if inside.number != 0 {
+            return inside;
+        }
+        let end = close(s, from, behind, inside.place);
+        if end.number != 0 {
+            return Reached {
+                number: end.number,
+                place: inside.place,
+                begun,
+                state: st,
+            };
+        }
+        last = inside.state;
+        place = end.end;
+        count = inside.begun;
     }
     Reached {
         number: 0,
-        place: end.end,
-        begun: inside.begun,
+        place,
+        begun: count,
         state: leave(s, at, behind, child, entry, tag, st, last, rows),
     }
 }

@@ -42,7 +42,7 @@ use Rattle.pass_state.specs.declared.State.{State}
 abbrev all : Known → Gauged → ℕ → Summed
 all j g r = record { judge = j; gauge = g; root = r }
 
-beside : {j k : Known} {g h : Gauged} {r q : ℕ} → j ≡ k → g ≡ h → r ≡ q → all j g r ≡ all k h q
+pub beside : {j k : Known} {g h : Gauged} {r q : ℕ} → j ≡ k → g ≡ h → r ≡ q → all j g r ≡ all k h q
 beside {k = k} {g = g} {h = h} {r = r} e f u = ap (λ x. all x g r) e ∙ ap (λ x. all k x r) f ∙ ap (all k h) u
 
 -- the parts that a caller is asked for

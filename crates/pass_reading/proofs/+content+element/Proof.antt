@@ -4,8 +4,12 @@ use Rattle.pass_state.specs.States.{stateOf}
 use Rattle.pass_reading.proofs.Contents.{Going, still-fits, run-read, run-low, run-high, run-solid-high, run-solid-is, run-less, rare-read, content-loop}
 use Rattle.marks_cuts.proofs.Sorts.{other-sort}
 use mathlib.Core.Path.{_∙_}
+use mathlib.Core.Logic.{⊎-elim}
+use denote.Ref.{now}
 use native.Mathlib.Omega.{arith}
-use Rattle.pass_reading.proofs.Elements.{short-read, refused-inside, refused-end, long-read, name-high, name-there, tag-high, inside-fits, inside-tag, inside-room, inside-eight, element-ways}
+use borrow.Author.Tests.{not-true, not-false}
+use Rattle.pass_reading.proofs.Elements.{Ended, no-tag, refused-tag, short-ended, refused-inside, refused-end, long-ended, name-high, name-there, tag-high, inside-tag, inside-room, element-ways}
+use Rattle.pass_reading.proofs.Leaves.{leaf-read}
 use borrow.Fn.Kinds.{In}
 use borrow.Fn.PlainCycle.{Measures, is, falls, and}
 use Rattle.pass_reading.proofs.content.Reads as content
@@ -24,10 +28,12 @@ use Rattle.pass_marks.proofs.rare_at.Reads as rare-at-reads
 use Rattle.pass_reading.proofs.is_outside.Reads as is-outside-reads
 use Rattle.pass_reading.proofs.is_over.Reads as is-over-reads
 use Rattle.pass_reading.proofs.is_stray.Reads as is-stray-reads
+use Rattle.pass_reading.proofs.plain_leaf.Reads as plain-leaf-reads
 use Rattle.pass_reading.proofs.stray_number.Reads as stray-number-reads
 use Rattle.pass_reading.proofs.wide.Reads as wide-reads
 use Rattle.pass_state.proofs.enter.Reads as enter-reads
 use Rattle.pass_state.proofs.leave.Reads as leave-reads
+use Rattle.pass_state.proofs.with_leaf.Reads as with-leaf-reads
 use Rattle.pass_state.proofs.with_rare.Reads as with-rare-reads
 use Rattle.pass_state.proofs.with_run.Reads as with-run-reads
 use Rattle.pass_steps.proofs.begin.Reads as begin-reads
@@ -58,6 +64,51 @@ content-Inv-loop s at left begun rows₀ i₀ b₀ sum₀ rows i b sum = Going s
 
 abbrev content-μ-loop : content-lts.MeasureT-loop
 content-μ-loop s at left begun rows₀ i₀ b₀ sum₀ rows i b sum = length s - i
+
+-- behind the short form and behind the end tag alike
+ended : (t : ℕ) (c : element-lts.Joined5 (
+  element-name-reads.Asked,
+  element-name-reads.Learnt,
+  wide-reads.Asked,
+  wide-reads.Learnt,
+  entry-of-reads.Asked,
+  entry-of-reads.Learnt,
+  begin-reads.Asked,
+  begin-reads.Learnt,
+  plain-leaf-reads.Asked,
+  plain-leaf-reads.Learnt,
+  with-leaf-reads.Asked,
+  with-leaf-reads.Learnt,
+  start-tag-reads.Asked,
+  start-tag-reads.Learnt,
+  enter-reads.Asked,
+  enter-reads.Learnt,
+  content-below t,
+  content.Post,
+  close-reads.Asked,
+  close-reads.Learnt,
+  leave-reads.Asked,
+  leave-reads.Learnt,
+) (element-at t) element.Post)
+    → Ended (now (c .before .before .before .before .before .before .before .before .before .before .before .before .before .before .before .before .before .before .before .args .s)) (c .before .before .before .before .before .before .before .before .before .before .before .before .before .before .before .before .before .before .before .args .left) (c .before .before .before .before .before .before .before .before .before .before .before .before .before .before .before .before .before .before .before .args .at) (c .before .before .before .before .before .before .before .before .before .before .before .before .before .before .before .before .before .before .before .args .begun) (c .before .before .before .before .before .before .before .before .before .before .before .before .before .before .before .before .before .before .before .args .st) (now (c .before .before .before .before .before .before .before .before .before .before .before .before .before .before .before .before .before .before .before .args .rows)) (c .before .before .before .before .before .before .before .before .before .before .before .before .before .before .before .before .before .element-name .result .behind) (c .if5 .place) (c .if5 .count) (c .if5 .last) (c .if5 .rows)
+ended t c =
+    let entered = c .before .before in
+    let begun = entered .before in
+    let fault = begun .before in
+    let there = fault .before in
+    let tag = there .before .before in
+    let leaf = tag .before .before .before in
+    let begin = leaf .before in
+    let listed = begin .before in
+    let wide = listed .before in
+    let named = wide .before .before .before in
+    let name = named .before in
+    let known = name .before .before .pre .1 in
+    let n = name .element-name .ensures in
+    ⊎-elim
+    (λ w. long-ended _ _ _ _ _ _ (known .1) (n .0) _ (named .if1 .left) (tag .start-tag .ensures) (there .if3 .left) (fault .begin2 .ensures .0) (begun .if4 .left) (not-true _ (w .0 .taken)) (fault .begin2 .ensures .1) _ _ (w .2 .ensures) (w .5 .left) (w .6 .ensures .0) (w .8 .left) (entered .enter .ensures .0) (w .12) (w .13) (w .11) (w .10))
+    (λ w. short-ended _ _ _ _ _ _ (known .1) (n .0) _ (named .if1 .left) (tag .start-tag .ensures) (there .if3 .left) (fault .begin2 .ensures .0) (begun .if4 .left) _ (not-false _ (w .0 .left)) (fault .begin2 .ensures .2) (known .5) (entered .enter .ensures .0) (entered .enter .ensures .1) (entered .enter .ensures .2) (w .3) (w .4) (w .2) (w .1))
+    (c .if5 .came)
 
 pub +content+element-spec : {M : Type 1} → statement M
 +content+element-spec = close μ-content μ-element (λ t. content-lts.spec (
@@ -157,22 +208,26 @@ pub +content+element-spec : {M : Type 1} → statement M
     λ t. element-lts.spec (
       element-name-reads.Asked,
       element-name-reads.Learnt,
-      start-tag-reads.Asked,
-      start-tag-reads.Learnt,
-      begin-reads.Asked,
-      begin-reads.Learnt,
       wide-reads.Asked,
       wide-reads.Learnt,
       entry-of-reads.Asked,
       entry-of-reads.Learnt,
+      begin-reads.Asked,
+      begin-reads.Learnt,
+      plain-leaf-reads.Asked,
+      plain-leaf-reads.Learnt,
+      with-leaf-reads.Asked,
+      with-leaf-reads.Learnt,
+      start-tag-reads.Asked,
+      start-tag-reads.Learnt,
       enter-reads.Asked,
       enter-reads.Learnt,
-      leave-reads.Asked,
-      leave-reads.Learnt,
       content-below t,
       content.Post,
       close-reads.Asked,
       close-reads.Learnt,
+      leave-reads.Asked,
+      leave-reads.Learnt,
     )
     (element-at t)
     element.Post
@@ -180,126 +235,141 @@ pub +content+element-spec : {M : Type 1} → statement M
     (λ c κs. search element-ways)
     (λ c. search element-ways)
     (λ c κs. search element-ways)
-    (λ c. search element-ways)
-    (λ c κs. search element-ways)
-    (λ c. search element-ways)
     (λ c κs. search element-ways)
     (λ c κs. search element-ways)
-    (λ c κs. let listed = c in
+    (λ c κs. let begin = c in
+    let listed = begin .before in
     let wide = listed .before in
-    let begun = wide .before .before in
-    let begin = begun .before in
-    let there = begin .before in
-    let tag = there .before .before in
-    let named = tag .before in
+    let named = wide .before .before .before in
     let name = named .before in
     let known = name .before .before .pre .1 in
     let n = name .element-name .ensures in
-    (rw (wide .wide .ensures) (tag .start-tag .ensures), there .if2 .left, wide .wide .ensures ∙ n .1 .0, listed .entry-of .ensures, omega (arith, known .0, known .6), known .4, omega (arith, known .5, begin .begin .ensures .2, begun .if3 .left)))
+    (known .1, n .0, name-there (n .0) (named .if1 .left), name-high (n .0)))
     (λ c. search element-ways)
-    (λ c κs. let entered = c .before .before in
-    let listed = entered .before in
+    (λ c κs. let begin = c .before .before .before in
+    let listed = begin .before in
     let wide = listed .before in
-    let begun = wide .before .before in
-    let begin = begun .before in
-    let there = begin .before in
-    let tag = there .before .before in
-    let named = tag .before in
+    let named = wide .before .before .before in
     let name = named .before in
     let known = name .before .before .pre .1 in
     let n = name .element-name .ensures in
-    (rw (wide .wide .ensures) (tag .start-tag .ensures), there .if2 .left, wide .wide .ensures ∙ n .1 .0, listed .entry-of .ensures, omega (arith, known .0, known .6), known .4, entered .enter .ensures .1, known .7))
-    (λ c. search element-ways)
-    (λ c. let entered = c .before .before .before .before in
-    let listed = entered .before in
+    (omega (arith, known .0, known .6), known .4))
+    (λ c. let leaf = c .before .before .before in
+    let begin = leaf .before in
+    let listed = begin .before in
     let wide = listed .before in
-    let begun = wide .before .before in
-    let begin = begun .before in
-    let there = begin .before in
-    let tag = there .before .before in
-    let named = tag .before in
+    let named = wide .before .before .before in
     let name = named .before in
     let known = name .before .before .pre .1 in
     let n = name .element-name .ensures in
-    let left = c .before .leave .ensures in
-    short-read _ _ _ _ _ _ (known .1) (n .0) _ (named .if1 .left) (tag .start-tag .ensures) (there .if2 .left) (begin .begin .ensures .0) (begun .if3 .left) _ _ (c .before .before .before .if4 .taken) (begin .begin .ensures .2) (known .5) (entered .enter .ensures .0) (entered .enter .ensures .2) (left .0 .0) (left .0 .1) (left .0 .2) (left .1 .0) (left .1 .1))
-    (λ c. search element-ways)
-    (λ c. search element-ways)
-    (λ c κs. let entered = c .before .before in
-    let listed = entered .before in
-    let wide = listed .before in
-    let begun = wide .before .before in
-    let begin = begun .before in
-    let there = begin .before in
+    leaf-read _ (wide .wide .ensures ∙ n .1 .0) (listed .entry-of .ensures) (begin .begin .ensures .0) (begin .begin .ensures .1) (begin .begin .ensures .2) (known .2) (known .5) _ (leaf .plain-leaf .ensures (c .before .if2 .taken)) (c .before .if2 .taken) _ (c .with-leaf .ensures .0) (c .with-leaf .ensures .2) _ (c .with-leaf .ensures .1))
+    (λ c κs. search element-ways)
+    (λ c. let tag = c .before .before in
+    let named = tag .before .before .before .before .before .before .before .before .before in
+    let name = named .before in
+    let known = name .before .before .pre .1 in
+    no-tag _ _ _ _ _ _ (known .1) (name .element-name .ensures .0) _ (named .if1 .left) (tag .start-tag .ensures) _ _ (c .if3 .taken))
+    (λ c κs. c .before .before .before .before .before .before .before .before .before .before .before .before .before .before .pre .1 .3)
+    (λ c. let fault = c .before in
+    let there = fault .before in
     let tag = there .before .before in
-    let named = tag .before in
+    let leaf = tag .before .before .before in
+    let begin = leaf .before in
+    let listed = begin .before in
+    let wide = listed .before in
+    let named = wide .before .before .before in
     let name = named .before in
     let known = name .before .before .pre .1 in
     let n = name .element-name .ensures in
-    (omega (arith, begin .begin .ensures .1, begun .if3 .left), (tag-high (tag .start-tag .ensures), omega (arith, known .2), omega (arith, begin .begin .ensures .2, begun .if3 .left), entered .enter .ensures .1, omega (arith, known .5, entered .enter .ensures .2), known .6, known .7)))
-    (λ c. search element-ways)
-    (λ c. let entered = c .before .before .before .before .before .before in
-    let listed = entered .before in
-    let wide = listed .before in
-    let begun = wide .before .before in
-    let begin = begun .before in
-    let there = begin .before in
+    refused-tag _ _ _ _ _ _ (known .1) (n .0) _ (named .if1 .left) (tag .start-tag .ensures) (there .if3 .left) (fault .begin2 .ensures .0) _ _ (c .if4 .taken))
+    (λ c κs. let begun = c in
+    let fault = begun .before in
+    let there = fault .before in
     let tag = there .before .before in
-    let named = tag .before in
+    let leaf = tag .before .before .before in
+    let begin = leaf .before in
+    let listed = begin .before in
+    let wide = listed .before in
+    let named = wide .before .before .before in
     let name = named .before in
     let known = name .before .before .pre .1 in
     let n = name .element-name .ensures in
-    refused-inside _ _ _ _ _ _ (known .1) (n .0) _ (named .if1 .left) (tag .start-tag .ensures) (there .if2 .left) (begin .begin .ensures .0) (begun .if3 .left) (c .before .before .before .before .before .if4 .left) (begin .begin .ensures .1) _ _ (c .before .before .before .content .ensures) (c .if5 .taken))
+    (rw (wide .wide .ensures) (tag .start-tag .ensures), there .if3 .left, wide .wide .ensures ∙ n .1 .0, listed .entry-of .ensures, omega (arith, known .0, known .6), known .4, omega (arith, known .5, fault .begin2 .ensures .2, begun .if4 .left)))
+    (λ c. search element-ways)
+    (λ c. search element-ways)
+    (λ c. search element-ways)
+    (λ c κs. let entered = c .before .before .before in
+    let begun = entered .before in
+    let fault = begun .before in
+    let there = fault .before in
+    let tag = there .before .before in
+    let leaf = tag .before .before .before in
+    let begin = leaf .before in
+    let listed = begin .before in
+    let wide = listed .before in
+    let named = wide .before .before .before in
+    let name = named .before in
+    let known = name .before .before .pre .1 in
+    let n = name .element-name .ensures in
+    (omega (arith, fault .begin2 .ensures .1, begun .if4 .left), (tag-high (tag .start-tag .ensures), omega (arith, known .2), omega (arith, fault .begin2 .ensures .2, begun .if4 .left), entered .enter .ensures .1, omega (arith, known .5, entered .enter .ensures .2), known .6, known .7)))
+    (λ c. search element-ways)
+    (λ c. let entered = c .before .before .before .before .before .before .before in
+    let begun = entered .before in
+    let fault = begun .before in
+    let there = fault .before in
+    let tag = there .before .before in
+    let leaf = tag .before .before .before in
+    let begin = leaf .before in
+    let listed = begin .before in
+    let wide = listed .before in
+    let named = wide .before .before .before in
+    let name = named .before in
+    let known = name .before .before .pre .1 in
+    let n = name .element-name .ensures in
+    refused-inside _ _ _ _ _ _ (known .1) (n .0) _ (named .if1 .left) (tag .start-tag .ensures) (there .if3 .left) (fault .begin2 .ensures .0) (begun .if4 .left) (not-true _ (c .before .before .before .before .before .if5 .taken)) (fault .begin2 .ensures .1) _ _ (c .before .before .before .content .ensures) (c .if6 .taken))
     (λ c κs. let entered = c .before .before .before .before .before .before .before in
-    let listed = entered .before in
-    let wide = listed .before in
-    let begun = wide .before .before in
-    let begin = begun .before in
-    let there = begin .before in
+    let begun = entered .before in
+    let fault = begun .before in
+    let there = fault .before in
     let tag = there .before .before in
-    let named = tag .before in
+    let leaf = tag .before .before .before in
+    let begin = leaf .before in
+    let listed = begin .before in
+    let wide = listed .before in
+    let named = wide .before .before .before in
     let name = named .before in
     let known = name .before .before .pre .1 in
     let n = name .element-name .ensures in
-    let read = c .before .before .before .before in
-    (name-there (n .0) (named .if1 .left), name-high (n .0), n .0, inside-room _ (read .content .ensures) (c .before .if5 .left) (omega (arith, known .2, begin .begin .ensures .1, begun .if3 .left)), inside-tag _ (read .content .ensures) (c .before .if5 .left) (omega (arith, known .2, begin .begin .ensures .1, begun .if3 .left))))
+    let read = c .before .before .before in
+    (name-there (n .0) (named .if1 .left), name-high (n .0), n .0, inside-room _ (read .content .ensures) (c .if6 .left) (omega (arith, known .2, fault .begin2 .ensures .1, begun .if4 .left)), inside-tag _ (read .content .ensures) (c .if6 .left) (omega (arith, known .2, fault .begin2 .ensures .1, begun .if4 .left))))
     (λ c. search element-ways)
     (λ c. let entered = c .before .before .before .before .before .before .before .before .before .before in
-    let listed = entered .before in
-    let wide = listed .before in
-    let begun = wide .before .before in
-    let begin = begun .before in
-    let there = begin .before in
+    let begun = entered .before in
+    let fault = begun .before in
+    let there = fault .before in
     let tag = there .before .before in
-    let named = tag .before in
+    let leaf = tag .before .before .before in
+    let begin = leaf .before in
+    let listed = begin .before in
+    let wide = listed .before in
+    let named = wide .before .before .before in
     let name = named .before in
     let known = name .before .before .pre .1 in
     let n = name .element-name .ensures in
-    refused-end _ _ _ _ _ _ (known .1) (n .0) _ (named .if1 .left) (tag .start-tag .ensures) (there .if2 .left) (begin .begin .ensures .0) (begun .if3 .left) (c .before .before .before .before .before .before .before .before .before .if4 .left) (begin .begin .ensures .1) _ _ (c .before .before .before .before .before .before .before .content .ensures) (c .before .before .before .before .if5 .left) (c .before .before .close .ensures .0) _ _ (c .if6 .taken))
-    (λ c κs. let entered = c .before .before .before .before .before .before .before .before .before .before .before in
-    let listed = entered .before in
-    let wide = listed .before in
-    let begun = wide .before .before in
-    let begin = begun .before in
-    let there = begin .before in
+    refused-end _ _ _ _ _ _ (known .1) (n .0) _ (named .if1 .left) (tag .start-tag .ensures) (there .if3 .left) (fault .begin2 .ensures .0) (begun .if4 .left) (not-true _ (c .before .before .before .before .before .before .before .before .if5 .taken)) (fault .begin2 .ensures .1) _ _ (c .before .before .before .before .before .before .content .ensures) (c .before .before .before .if6 .left) (c .before .before .close .ensures .0) _ _ (c .if7 .taken))
+    (λ c κs. let entered = c .before .before .before in
+    let begun = entered .before in
+    let fault = begun .before in
+    let there = fault .before in
     let tag = there .before .before in
-    let named = tag .before in
+    let leaf = tag .before .before .before in
+    let begin = leaf .before in
+    let listed = begin .before in
+    let wide = listed .before in
+    let named = wide .before .before .before in
     let name = named .before in
     let known = name .before .before .pre .1 in
     let n = name .element-name .ensures in
-    let read = c .before .before .before .before .before .before .before .before in
-    (rw (wide .wide .ensures) (tag .start-tag .ensures), there .if2 .left, wide .wide .ensures ∙ n .1 .0, listed .entry-of .ensures, omega (arith, known .0, known .6), known .4, inside-fits _ (read .content .ensures) (c .before .before .before .before .before .if5 .left), inside-eight _ (read .content .ensures) (c .before .before .before .before .before .if5 .left) (known .7)))
-    (λ c. search element-ways)
-    (λ c. let entered = c .before .before .before .before .before .before .before .before .before .before .before .before .before in
-    let listed = entered .before in
-    let wide = listed .before in
-    let begun = wide .before .before in
-    let begin = begun .before in
-    let there = begin .before in
-    let tag = there .before .before in
-    let named = tag .before in
-    let name = named .before in
-    let known = name .before .before .pre .1 in
-    let n = name .element-name .ensures in
-    let left = c .before .leave2 .ensures in
-    long-read _ _ _ _ _ _ (known .1) (n .0) _ (named .if1 .left) (tag .start-tag .ensures) (there .if2 .left) (begin .begin .ensures .0) (begun .if3 .left) (c .before .before .before .before .before .before .before .before .before .before .before .before .if4 .left) (begin .begin .ensures .1) _ _ (c .before .before .before .before .before .before .before .before .before .before .content .ensures) (c .before .before .before .before .before .before .before .if5 .left) (c .before .before .before .before .before .close .ensures .0) _ (c .before .before .before .if6 .left) (entered .enter .ensures .0) (left .0 .0) (left .0 .1) (left .0 .2) (left .1 .0) (left .1 .1))
+    (rw (wide .wide .ensures) (tag .start-tag .ensures), there .if3 .left, wide .wide .ensures ∙ n .1 .0, listed .entry-of .ensures, omega (arith, known .0, known .6), known .4, ended t (c .before) .fits, rw (ended t (c .before) .long) (known .7)))
+    (λ c. c .before .leave .ensures .1 .1 ∙ ended t (c .before .before .before) .long)
+    (λ c. let left = c .before .leave .ensures in ended t (c .before .before .before) .reads _ (left .0 .0) (left .0 .1) (left .0 .2) (left .1 .0) (left .1 .1))

@@ -1,0 +1,100 @@
+-- A plain leaf: its tests, and reading it, which is entering it, one run of text or nothing, and leaving it.
+use mathlib.Core.Path.{_≡_, refl, sym, ap, _∙_}
+use mathlib.Core.List.{List, []}
+use mathlib.Core.Bool.{Bool, true, false, cond, not, _&&_, _||_}
+use mathlib.Core.Logic.{⊎-elim}
+use Prim.Native.Nat.{ℕ, _+_, _-_, _≤_, _<_}
+use native.Mathlib.Omega.{arith}
+use borrow.Author.Needs.{needs}
+use lib.IntN.{ℤ}
+use lib.ListN.{drop, take}
+use Rattle.cdi.specs.Pieces.{attributes, text}
+use Rattle.cdi.specs.Numbers.{number}
+use Rattle.scan.proofs.Tests.{eq-or-ne}
+use Rattle.names.specs.Names.{elementNumber}
+use Rattle.pieces_cuts.specs.Places.{part}
+use Rattle.pieces_cuts.specs.Cuts.{pieceOf}
+use Rattle.marks_leaf.specs.Leaves.{Leaves}
+use Rattle.marks_leaf.proofs.Told.{leaf-low, leaf-same, leaf-ahead}
+use Rattle.rules_judge.specs.declared.Said.the-variants.{Silent}
+use Rattle.rules_judge.specs.Judging.{saidBy, isValue}
+use Rattle.rules_judge.specs.Tables.{entryAt}
+use Rattle.rules_judge.specs.Parts.{isNumeric}
+use Rattle.judges_state.specs.Decoded.{saidOf}
+use Rattle.gauges_state.specs.Flat.{gaugeOf}
+use Rattle.pass_steps.specs.Asks.{stepOf, beginFault}
+use Rattle.pass_sums.specs.Sums.{recordsOf, enterOf, otherOf, leaveOf}
+use Rattle.pass_sums.specs.declared.State.{State as Summed}
+use Rattle.pass_laws.specs.Passing.{Passed}
+use Rattle.pass_laws.proofs.Steps.{none-yet, passes, long-element}
+use Rattle.pass_state.specs.States.{stateOf, Fits, leafOf}
+use Rattle.pass_state.specs.declared.State.{State}
+use Rattle.pass_state.proofs.Leaf.{leaf-unrecorded, leaf-unwritten, leaf-one-run, leaf-nothing}
+use Rattle.pass_reading.specs.Reading.{ElementReads}
+use Rattle.pass_reading.specs.Leaves.{Plainly}
+use Rattle.pass_reading.specs.declared.Leaf.{Leaf}
+
+-- the records that a state counts
+pub counted : (st : State) → recordsOf (stateOf st) ≡ st .gauge .records
+unfolding recordsOf stateOf gaugeOf
+counted st = refl
+
+-- ── its tests ──
+
+module _ (s : List ℕ) (at n fault child entry last level : ℕ) (numeric : Bool) where
+  pub not-plain : (r : Leaf) → r .end ≡ 0 → (r .end ≡ 0 → ⊥) → Plainly s at n fault child entry last level numeric r
+  not-plain r e z = absurd (z e)
+
+  pub plain-there : {to e said m : ℕ} {good : Bool} → fault ≡ 0 → 12 ≤ child → last < entry → (level ≡ 0 → ⊥) → Leaves s at n to e → (e ≡ 0 → ⊥)
+      → saidOf said m ≡ cond (numeric && isNumeric child) (saidBy (number (part s (n + 1) to))) Silent → good ≡ (not (numeric && isNumeric child) || isValue (saidOf said 0)) → good ≡ true
+      → Plainly s at n fault child entry last level numeric (record { end = e; said = said; magnitude = m })
+  plain-there {to} f h o z v y es eg g = record { to = to; plain = v .plain y; begun = f; worded = h; later = o; inside = z; says = es; good = sym eg ∙ g }
+
+-- ── reading it ──
+
+module _ {s : List ℕ} {left at b : ℕ} (st : State) {n child entry : ℕ} (ec : child ≡ elementNumber (part s (at + 1) n)) (ee : entry ≡ entryAt (st .judge .row) child)
+    {m : ℕ} (f : m ≡ beginFault false left b) (one : 1 ≤ left + m) (room : b + 1 ≤ 4096 + m) (h : left ≤ 24) (few : st .gauge .records ≤ b)
+    (l : Leaf) (w : Plainly s at n m child entry (st .judge .last) (st .gauge .level) (st .judge .numeric) l) (z : l .end ≡ 0 → ⊥)
+    (r : State) (er : stateOf r ≡ leafOf (stateOf st) at child entry (saidOf (l .said) (l .magnitude))) (fr : r .gauge .records ≤ st .gauge .records) (t : List ℤ) where
+  abbrev name : List ℕ
+  name = part s (at + 1) n
+
+  abbrev inner : Summed
+  inner = enterOf (stateOf st) at name (attributes 0 (drop n s))
+
+  v : Leaves s at n (w .to) (l .end)
+  v = record { plain = λ e. w .plain }
+
+  bare : attributes 0 (drop n s) ≡ []
+  bare = w .plain .bare
+
+  few-inside : recordsOf inner ≡ st .gauge .records
+  few-inside = rw bare (leaf-unrecorded st at name ec (w .worded)) ∙ counted st
+
+  begin : Passed s (left - 1) (n + 1) (b + 1) inner t (n + 1) (b + 1) inner t
+  begin = none-yet s (left - 1) (n + 1) (b + 1) inner t (w .plain .start .cut .high) (omega (arith, w .begun)) (omega (arith, few-inside))
+
+  -- its own end tag behind one run of text or nothing
+  finish : (last : Summed) → Passed s (left - 1) (n + 1) (b + 1) inner t (w .to) (b + 1) last t → recordsOf last ≡ st .gauge .records → stateOf r ≡ leaveOf (stateOf st) at name (attributes 0 (drop n s)) last
+      → Passed s left at b (stateOf st) t (l .end) (b + 1) (stateOf r) t
+  finish last way same-records e = long-element s left at b (stateOf st) t (w .plain .start) refl f (w .begun) refl (omega (arith, w .begun)) way (w .plain .finish) refl (leaf-same v z) refl
+      e (rw bare (leaf-unwritten st at name ec (w .worded) last t)) (omega (arith, same-records, counted r)) refl
+
+  with-run : (w .to ≡ n + 1 → ⊥) → Passed s left at b (stateOf st) t (l .end) (b + 1) (stateOf r) t
+  unfolding stepOf pieceOf
+  with-run y = finish (otherOf inner (n + 1) (text (part s (n + 1) (w .to))))
+      (passes begin (w .plain .text y) refl (omega (arith, w .begun)) refl (unfold recordsOf otherOf in omega arith))
+      (unfold recordsOf otherOf in few-inside)
+      (rw bare (leaf-one-run st at name ec (w .worded) ee (w .later) (w .inside) (l .said) (l .magnitude) (part s (n + 1) (w .to)) (w .says) (w .good) r er (n + 1)))
+
+  without : w .to ≡ n + 1 → Passed s left at b (stateOf st) t (l .end) (b + 1) (stateOf r) t
+  without y = finish inner (rw y begin) few-inside
+      (rw bare (leaf-nothing st at name ec (w .worded) ee (w .later) (w .inside) (l .said) (l .magnitude) (part s (n + 1) (w .to)) (w .says) (w .good) r er nothing))
+    where
+      nothing : part s (n + 1) (w .to) ≡ []
+      nothing = ap (λ (k : ℕ). take k (drop (n + 1) s)) (let e : w .to - (n + 1) ≡ 0 = omega arith in e)
+
+  pub leaf-read : Fits r → ElementReads s left at b (stateOf st) t t (record { number = 0; place = l .end; begun = b + 1; state = r })
+  leaf-read fit = record { done = λ e. ⊎-elim without with-run (eq-or-ne (w .to) (n + 1)); ahead = λ e. leaf-ahead v z; fits = λ e. fit; fails = λ e. absurd (e refl) }
+
+pub ruleset leaf-tests = (not-plain, plain-there, leaf-low, needs)
