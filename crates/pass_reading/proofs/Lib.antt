@@ -2,3 +2,4 @@ pub mod Standing
 pub mod Leaves
 pub mod Elements
 pub mod Contents
+pub mod Once
