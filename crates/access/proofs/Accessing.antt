@@ -9,13 +9,14 @@ use Rattle.cdi.specs.Faults.{Fault, fault, Answer, accepted, refused, _andThen_
 use Rattle.cdi.specs.Planning.{Description, described}
 use Rattle.cdi.specs.Access.{Window, Value, exact, settingIn, settingOf, firstCause, writeCauses, written, writeInto, windowAfter, readFrom, read}
 use Rattle.cdi.proofs.Quiet.{impossible}
-use Rattle.access_sought.specs.Told.{endIn, knownOf, checkedOf, soughtOf, Fits}
+use Rattle.access_sought.specs.Told.{endIn, knownOf, soughtOf, Fits}
+use Rattle.access_checked.specs.Told.{checkedOf}
 use Rattle.access_kinds.specs.Told.{settingIs, Good, windowOf}
 use Rattle.access_writing.specs.Told.{writtenOf}
 use Rattle.access_reading.specs.Told.{readingOf, ReadAt}
 use Rattle.access.specs.Told.{startFor}
-use Rattle.access_sought.specs.declared.Checked.{Checked}
-use Rattle.access_sought.specs.declared.Checked.the-variants as checked
+use Rattle.access_checked.specs.declared.Checked.{Checked}
+use Rattle.access_checked.specs.declared.Checked.the-variants as checked
 use Rattle.access_kinds.specs.declared.Setting.{Setting}
 use Rattle.access_sought.specs.declared.Sought.{Sought}
 use Rattle.access_sought.specs.declared.Sought.the-variants.{Is, Nothing}

@@ -15,14 +15,15 @@ use Rattle.cdi.specs.Access as A
 use Rattle.cdi.specs.Access.{Window, Value, integer, event, string, settingOf, isInside, written, windowAfter, read}
 use Rattle.cdi.proofs.Quiet.{impossible}
 use Rattle.cdi.proofs.Signs.{up, down, down-negative}
-use Rattle.access_sought.specs.Told.{knownOf, checkedOf, soughtOf}
+use Rattle.access_sought.specs.Told.{knownOf, soughtOf}
+use Rattle.access_checked.specs.Told.{checkedOf}
 use Rattle.access_kinds.specs.Told.{windowOf, Decides}
 use Rattle.access_order.specs.Told.{causeOf}
 use Rattle.access_writing.specs.Told.{writtenOf}
 use Rattle.access_reading.specs.Told.{readingOf, ReadAt}
 use Rattle.access.specs.Told.{startFor}
-use Rattle.access_sought.specs.declared.Checked.{Checked}
-use Rattle.access_sought.specs.declared.Checked.the-variants as checked
+use Rattle.access_checked.specs.declared.Checked.{Checked}
+use Rattle.access_checked.specs.declared.Checked.the-variants as checked
 use Rattle.access_sought.specs.declared.Sought.{Sought}
 use Rattle.access_writing.specs.declared.Written.{Written}
 use Rattle.access_writing.specs.declared.Written.the-variants as written

@@ -1,11 +1,11 @@
 // Writing and reading settings: a text, the exact records planned from it, a variable's number and a window in; a refusal or the value out. A write
 // changes the bytes of its variable and no other; a refused one changes none.
 
+use access_checked::Checked;
+use access_checked::check;
 use access_reading::Reading;
 use access_reading::fetch;
-use access_sought::Checked;
 use access_sought::Sought;
-use access_sought::check;
 use access_sought::seek;
 use access_writing::Written;
 use access_writing::store;

@@ -8,8 +8,6 @@ use Rattle.cdi.specs.Text.{endOf}
 use Rattle.cdi.specs.Planning.{described}
 use Rattle.cdi.specs.Access as A
 use Rattle.cdi.specs.Access.{exact}
-use Rattle.access_sought.specs.declared.Checked.{Checked}
-use Rattle.access_sought.specs.declared.Checked.the-variants as checked
 use Rattle.access_kinds.specs.declared.Setting.{Setting}
 use Rattle.access_sought.specs.declared.Sought.{Sought}
 use Rattle.access_sought.specs.declared.Sought.the-variants.{Is, Nothing}
@@ -22,10 +20,6 @@ endIn b = given (endOf b) 0 (λ e. e)
 -- 1 to 12 and 20: the end of the content, where the table is exactly the one planned from the text
 unfoldable pub knownOf : List ℕ → List ℤ → Answer ℕ
 knownOf b t = described b andThen exact t andThen λ d. accepted (endIn b)
-
-unfoldable pub checkedOf : Checked → Answer ℕ
-checkedOf (checked.Exact e) = accepted e
-checkedOf (checked.Refused n p) = refused (fault n p)
 
 unfoldable pub soughtOf : List ℕ → Sought → Answer A.Setting
 soughtOf c (Is s) = accepted (settingIs c s)

@@ -8,10 +8,10 @@ use lib.IntN.{natAbs}
 use Rattle.cdi.specs.Faults.{Answer}
 use Rattle.cdi.specs.Values.{signed}
 use Rattle.cdi.specs.Access as A
-use Rattle.access_sought.specs.Told.{checkedOf}
+use Rattle.access_checked.specs.Told.{checkedOf}
 use Rattle.access_writing.specs.Told.{writtenOf}
 use Rattle.access_reading.specs.Told.{readingOf}
-use Rattle.access_sought.specs.declared.Checked.{Checked}
+use Rattle.access_checked.specs.declared.Checked.{Checked}
 use Rattle.access_writing.specs.declared.Written.{Written}
 use Rattle.access_reading.specs.declared.Reading.{Reading}
 use Rattle.access_reading.specs.declared.Reading.the-variants.{Integer, Event, Text, Refused}

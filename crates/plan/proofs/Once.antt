@@ -1,15 +1,14 @@
 -- One answer: any two results that a contract allows are the same, and so is all lent memory that a result speaks of.
 use mathlib.Core.Path.{_≡_, sym, ap, _∙_}
 use mathlib.Core.List.{List}
-use Prim.Native.Nat.{ℕ, _*_}
+use Prim.Native.Nat.{ℕ}
 use lib.IntN.{ℤ}
-use lib.ListN.{take}
 use Rattle.cdi.specs.Faults.{Fault, fault, Answer, accepted, refused}
 use Rattle.cdi.specs.Planning.{Counts, planned, tableAfter}
 use Rattle.cdi.proofs.Quiet.{impossible}
 use Rattle.plan_stages.specs.declared.Planned.{Planned}
 use Rattle.plan_stages.specs.declared.Planned.the-variants.{Accepted, Refused}
-use Rattle.plan_stages.specs.Outlines.{Outline, outlineOf, saidOf, answerOf}
+use Rattle.plan_stages.specs.Outlines.{answerOf}
 
 module _ {A : Type 0} where
   same-accepted : {x y : A} → accepted x ≡ accepted y → x ≡ y
@@ -28,23 +27,9 @@ answer-alike (Accepted n v) (Refused m p) e = impossible (cc)
 answer-alike (Refused n p) (Accepted m w) e = impossible (cc)
 answer-alike (Refused n p) (Refused m q) e = refused-alike (same-refused e)
 
-said-alike : (r q : Planned) (t u : List ℤ) → saidOf r t ≡ saidOf q u → r ≡ q
-unfolding saidOf
-said-alike (Accepted n v) (Accepted m w) t u e = ap (λ (o : Outline). Accepted (o .records) (o .variables)) (same-accepted e)
-said-alike (Accepted n v) (Refused m p) t u e = impossible (cc)
-said-alike (Refused n p) (Accepted m w) t u e = impossible (cc)
-said-alike (Refused n p) (Refused m q) t u e = refused-alike (same-refused e)
-
 module _ (b : List ℕ) where
   pub plan-once : (t : List ℤ) (r q : Planned) → answerOf r ≡ planned b t → answerOf q ≡ planned b t → r ≡ q
   plan-once t r q e f = answer-alike r q (e ∙ sym f)
 
   pub table-once : (t u v : List ℤ) → u ≡ tableAfter b t → v ≡ tableAfter b t → u ≡ v
   table-once t u v e f = e ∙ sym f
-
-  pub outline-once : (r q : Planned) (t u : List ℤ) → saidOf r t ≡ outlineOf b → saidOf q u ≡ outlineOf b → r ≡ q
-  outline-once r q t u e f = said-alike r q t u (e ∙ sym f)
-
-  pub rows-once : (n v : ℕ) (t u : List ℤ) → saidOf (Accepted n v) t ≡ outlineOf b → saidOf (Accepted n v) u ≡ outlineOf b → take (8 * n) t ≡ take (8 * n) u
-  unfolding saidOf
-  rows-once n v t u e f = ap (λ (o : Outline). o .rows) (same-accepted (e ∙ sym f))

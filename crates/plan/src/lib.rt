@@ -1,42 +1,96 @@
 // Planning: any text and any lent table in, a refusal with its place or the table out. The rows are made in a table of the planner's own and
-// copied to the caller's as the last step, so that a refusal writes nothing.
+// copied to the caller's as the last step, so that a refusal writes nothing. That table is cleared for each text, so a text gets one of the size
+// that likely fits it; where it has more records, it is planned again with more rows.
 
-use pass::Outcome;
-use pass::read;
-use pass_sums::start;
+use plan_opening::Opened;
+use plan_opening::open_text;
+use plan_outline::outline;
 use plan_stages::Planned;
-use plan_stages::settled;
+use plan_table::FIELDS;
 use plan_table::put;
-use text::End;
-use text::Place;
-use text::bad_behind;
-use text::examine;
-use text::is_opening;
 ghost use mathlib.Core.Path.{_≡_};
 ghost use Prim.Native.Nat.{_≤_};
 ghost use lib.ListN.{length};
 ghost use Rattle.cdi.specs.Planning.{planned, tableAfter};
-ghost use Rattle.text_runs.specs.Runs.{plain, AllOf};
-ghost use Rattle.plan_stages.specs.Outlines.{outlineOf, saidOf, Few, answerOf, ofContent, ofMarkup};
+ghost use Rattle.plan_stages.specs.Outlines.{answerOf, ofMarkup, plannedBy, afterBy};
 
-// The numbers of as many records as a description can have.
-pub const ROOM: usize = 32768;
+// So many records have room; a description has at most 4,096.
+const FEW: usize = 128;
 
-// The length of the first line.
-const OPENING: usize = 22;
+const MORE: usize = 1024;
 
-// Stages 1 to 12: what the text describes, with its rows at the front of these. Of a refused text the rows say nothing.
-pub fn outline(text: &[u8], rows: &mut [i64]) -> Planned
-    requires { ⌜ 32768 ≤ length (now rows) ⌝ }
-    ensures said { λ r. ⌜ saidOf r (now (rows .exit)) ≡ outlineOf (now (text .entry)) ⌝ }
-    ensures few { λ r. ⌜ Few r ⌝ }
+const MANY: usize = 4096;
+
+// Content up to these lengths seldom has more records.
+const SHORT: usize = 4096;
+
+const LONGER: usize = 32768;
+
+// Stages 4 to 13 of content that begins with the first line, with rows for 4,096 records.
+fn plan_many(content: &[u8], table: &mut [i64]) -> Planned
+    requires { ⌜ (22 ≤ length (now content)) × (length (now content) ≤ 65535) ⌝ }
+    ensures answer { λ r. ⌜ r ≡ plannedBy (ofMarkup (now (content .entry))) (length (now (table .entry))) ⌝ }
+    ensures after { λ _. ⌜ now (table .exit) ≡ afterBy (ofMarkup (now (content .entry))) (now (table .entry)) ⌝ }
 {
-    let told = examine(text);
-    let ends = told.end;
-    match ends {
-        End::Missing(place) => Planned::Refused { number: 1, place },
-        End::At(end) => read_content(&text[0..end], told.run, rows),
+    let mut rows = [0i64; FIELDS * MANY];
+    let told = outline(content, &mut rows);
+    match told {
+        Planned::Refused { number, place } => Planned::Refused { number, place },
+        Planned::Accepted { records, variables } => put(&rows, records, variables, table),
     }
+}
+
+// The same with rows for 1,024 records, and with more where these are too few.
+fn plan_more(content: &[u8], table: &mut [i64]) -> Planned
+    requires { ⌜ (22 ≤ length (now content)) × (length (now content) ≤ 65535) ⌝ }
+    ensures answer { λ r. ⌜ r ≡ plannedBy (ofMarkup (now (content .entry))) (length (now (table .entry))) ⌝ }
+    ensures after { λ _. ⌜ now (table .exit) ≡ afterBy (ofMarkup (now (content .entry))) (now (table .entry)) ⌝ }
+{
+    let mut rows = [0i64; FIELDS * MORE];
+    let told = outline(content, &mut rows);
+    match told {
+        Planned::Refused { number, place } => Planned::Refused { number, place },
+        Planned::Accepted { records, variables } => {
+            if MORE < records {
+                return plan_many(content, table);
+            }
+            put(&rows, records, variables, table)
+        }
+    }
+}
+
+// The same with rows for 128 records, and with more where these are too few.
+fn plan_few(content: &[u8], table: &mut [i64]) -> Planned
+    requires { ⌜ (22 ≤ length (now content)) × (length (now content) ≤ 65535) ⌝ }
+    ensures answer { λ r. ⌜ r ≡ plannedBy (ofMarkup (now (content .entry))) (length (now (table .entry))) ⌝ }
+    ensures after { λ _. ⌜ now (table .exit) ≡ afterBy (ofMarkup (now (content .entry))) (now (table .entry)) ⌝ }
+{
+    let mut rows = [0i64; FIELDS * FEW];
+    let told = outline(content, &mut rows);
+    match told {
+        Planned::Refused { number, place } => Planned::Refused { number, place },
+        Planned::Accepted { records, variables } => {
+            if FEW < records {
+                return plan_more(content, table);
+            }
+            put(&rows, records, variables, table)
+        }
+    }
+}
+
+// Stages 4 to 13, with rows by the content's length.
+fn plan_content(content: &[u8], table: &mut [i64]) -> Planned
+    requires { ⌜ (22 ≤ length (now content)) × (length (now content) ≤ 65535) ⌝ }
+    ensures answer { λ r. ⌜ r ≡ plannedBy (ofMarkup (now (content .entry))) (length (now (table .entry))) ⌝ }
+    ensures after { λ _. ⌜ now (table .exit) ≡ afterBy (ofMarkup (now (content .entry))) (now (table .entry)) ⌝ }
+{
+    if content.len() <= SHORT {
+        return plan_few(content, table);
+    }
+    if content.len() <= LONGER {
+        return plan_more(content, table);
+    }
+    plan_many(content, table)
 }
 
 // The plan of a text: its records stand at the front of the table and the rest of it is unchanged, or it is refused and the whole table is
@@ -45,45 +99,9 @@ pub fn plan(text: &[u8], table: &mut [i64]) -> Planned
     ensures answer { λ r. ⌜ answerOf r ≡ planned (now (text .entry)) (now (table .entry)) ⌝ }
     ensures after { λ _. ⌜ now (table .exit) ≡ tableAfter (now (text .entry)) (now (table .entry)) ⌝ }
 {
-    let mut rows = [0i64; ROOM];
-    let told = outline(text, &mut rows);
-    match told {
-        Planned::Refused { number, place } => Planned::Refused { number, place },
-        Planned::Accepted { records, variables } => put(&rows, records, variables, table),
-    }
-}
-
-// Stages 4 to 12, of content that begins with the first line.
-fn read_elements(content: &[u8], rows: &mut [i64]) -> Planned
-    requires { ⌜ (22 ≤ length (now content)) × (length (now content) ≤ 65535) × (32768 ≤ length (now rows)) ⌝ }
-    ensures said { λ r. ⌜ saidOf r (now (rows .exit)) ≡ ofMarkup (now (content .entry)) ⌝ }
-    ensures few { λ r. ⌜ Few r ⌝ }
-{
-    let st = start();
-    let outcome = read(content, OPENING, st, rows);
-    match outcome {
-        Outcome::Refused { number, place } => Planned::Refused { number, place },
-        Outcome::Read { state } => settled(state),
-    }
-}
-
-// Stages 2 to 12, of content whose bytes before this place are characters by themselves.
-fn read_content(content: &[u8], run: usize, rows: &mut [i64]) -> Planned
-    requires { ⌜ (length (now content) ≤ 65535) × (32768 ≤ length (now rows)) × (run ≤ length (now content)) × AllOf plain (now content) 0 run ⌝ }
-    ensures said { λ r. ⌜ saidOf r (now (rows .exit)) ≡ ofContent (now (content .entry)) ⌝ }
-    ensures few { λ r. ⌜ Few r ⌝ }
-{
-    let bad = bad_behind(content, run);
-    match bad {
-        Place::At(place) => Planned::Refused { number: 2, place },
-        Place::Nothing => {
-            if is_opening(content) {
-                return read_elements(content, rows);
-            }
-            Planned::Refused {
-                number: 3,
-                place: 0,
-            }
-        }
+    let begun = open_text(text);
+    match begun {
+        Opened::Refused { number, place } => Planned::Refused { number, place },
+        Opened::Ends(end) => plan_content(&text[0..end], table),
     }
 }

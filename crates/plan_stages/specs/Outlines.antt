@@ -4,17 +4,16 @@ use mathlib.Core.Bool.{cond}
 use Prim.Native.Nat.{ℕ, _*_, _≤_}
 use lib.Dec.{leb}
 use lib.IntN.{ℤ}
-use lib.ListN.{take}
+use lib.ListN.{length, take}
 use Rattle.cdi.specs.Faults.{fault, Answer, accepted, refused, _andThen_}
 use Rattle.cdi.specs.Tree.{Nodes}
 use Rattle.cdi.specs.Walk.{total}
 use Rattle.cdi.specs.Table.{tableOf, recordsOf}
-use Rattle.cdi.specs.Planning.{Description, Counts, characters, opening, markup, elements, addresses, counting, described}
+use Rattle.cdi.specs.Planning.{Description, Counts, characters, opening, markup, elements, addresses, counting, described, placed}
 use Rattle.rules_judge.specs.declared.Least.{Least}
 use Rattle.rules_judge.specs.declared.Least.the-variants.{Nothing, Is}
 use Rattle.gauge_tag.specs.declared.Leaves.{Leaves}
 use Rattle.gauge_tag.specs.declared.Leaves.the-variants.{Never, At}
-use Rattle.pass_sums.specs.declared.State.{State}
 use Rattle.plan_stages.specs.declared.Planned.{Planned}
 use Rattle.plan_stages.specs.declared.Planned.the-variants.{Accepted, Refused}
 
@@ -48,6 +47,10 @@ ofMarkup c = markup c andThen elements andThen addresses andThen counting andThe
 unfoldable pub ofTree : Nodes → Answer Outline
 ofTree u = elements u andThen addresses andThen counting andThen outlined
 
+-- an outline whose rows are those for which so many numbers have room
+unfoldable pub inRoom : ℕ → Outline → Answer Outline
+inRoom l o = accepted (outline (o .records) (o .variables) (take l (o .rows)))
+
 -- ── what the code says ──
 
 -- an answer, by the rows that were filled with it
@@ -79,13 +82,24 @@ unfoldable pub ruledBy : Least → Planned → Planned
 ruledBy (Is f) r = Refused (f .number) (f .place)
 ruledBy Nothing r = r
 
-unfoldable pub settledOf : State → Planned
-settledOf st = ruledBy (st .judge .least) (addressedBy (st .gauge .leaves) (countedBy (st .gauge .records) (st .gauge .total) (st .root)))
+-- 8 to 12, by the least fault, the first segment that leaves the addresses, records, variables and the root's place
+unfoldable pub settledBy : Least → Leaves → ℕ → ℕ → ℕ → Planned
+settledBy l a n v root = ruledBy l (addressedBy a (countedBy n v root))
 
 -- 13, by the table's length
 unfoldable pub putOf : ℕ → ℕ → ℕ → Planned
 putOf n v l = cond (leb (8 * n) l) (Accepted n v) (Refused 13 0)
 
+-- what planning says of an outline, by the table's length
+unfoldable pub plannedBy : Answer Outline → ℕ → Planned
+plannedBy (accepted o) l = putOf (o .records) (o .variables) l
+plannedBy (refused f) l = Refused (f .number) (f .place)
+
+-- and what stands in the table afterwards
+unfoldable pub afterBy : Answer Outline → List ℤ → List ℤ
+afterBy (accepted o) t = cond (leb (8 * o .records) (length t)) (placed (o .rows) t) t
+afterBy (refused f) t = t
+
 unfoldable pub outlines-page : Unit {0}
-unfolding outlined outlineOf ofContent ofMarkup ofTree saidOf Few answerOf countedBy addressedBy ruledBy settledOf putOf
+unfolding outlined outlineOf ofContent ofMarkup ofTree inRoom saidOf Few answerOf countedBy addressedBy ruledBy settledBy putOf plannedBy afterBy
 outlines-page = tt

@@ -1,10 +1,11 @@
 // Stages 8 to 12, in their order: each refuses or hands on what the next one says.
 
-use gauge_tag::Leaves;
-use pass_sums::State;
-use rules_judge::Least;
+use gauges_state::NEVER;
+use keys::NOTHING;
 ghost use mathlib.Core.Path.{_≡_};
-ghost use Rattle.plan_stages.specs.Outlines.{countedBy, addressedBy, ruledBy, settledOf};
+ghost use Rattle.judges_state.specs.Decoded.{leastIn};
+ghost use Rattle.gauges_state.specs.Flat.{leavesOf};
+ghost use Rattle.plan_stages.specs.Outlines.{countedBy, addressedBy, ruledBy, settledBy};
 
 // A description's records and variables, or the refusal.
 pub enum Planned {
@@ -28,37 +29,37 @@ fn counted(records: usize, variables: u64, root: usize) -> Planned
 }
 
 // Stage 11: addresses, or else what comes next.
-fn addressed(leaves: Leaves, next: Planned) -> Planned
-    ensures { λ r. ⌜ r ≡ addressedBy leaves next ⌝ }
+fn addressed(leaves: usize, next: Planned) -> Planned
+    ensures { λ r. ⌜ r ≡ addressedBy (leavesOf leaves) next ⌝ }
 {
-    let Leaves::At(place) = leaves else {
+    if leaves == NEVER {
         return next;
-    };
-    Planned::Refused { number: 11, place }
-}
-
-// Stages 8 to 10: the least fault against the table of elements, or else what comes next.
-fn ruled(least: Least, next: Planned) -> Planned
-    ensures { λ r. ⌜ r ≡ ruledBy least next ⌝ }
-{
-    let Least::Is(f) = least else {
-        return next;
-    };
+    }
     Planned::Refused {
-        number: f.number as usize,
-        place: f.place,
+        number: 11,
+        place: leaves,
     }
 }
 
-// Stages 8 to 12, of what was summed up over all elements.
-pub fn settled(st: State) -> Planned
-    ensures { λ r. ⌜ r ≡ settledOf st ⌝ }
+// Stages 8 to 10: the least fault against the table of elements, or else what comes next.
+fn ruled(least: usize, next: Planned) -> Planned
+    ensures { λ r. ⌜ r ≡ ruledBy (leastIn least) next ⌝ }
 {
-    let judge = st.judge;
-    let gauge = st.gauge;
-    let least = judge.least;
-    let leaves = gauge.leaves;
-    let last = counted(gauge.records, gauge.total, st.root);
+    if least == NOTHING {
+        return next;
+    }
+    Planned::Refused {
+        number: least % 32,
+        place: least / 32,
+    }
+}
+
+// Stages 8 to 12, of what was summed up over all elements: the least fault, the first segment that leaves the addresses, records, variables and the
+// root's place.
+pub fn settled(least: usize, leaves: usize, records: usize, variables: u64, root: usize) -> Planned
+    ensures { λ r. ⌜ r ≡ settledBy (leastIn least) (leavesOf leaves) records variables root ⌝ }
+{
+    let last = counted(records, variables, root);
     let next = addressed(leaves, last);
     ruled(least, next)
 }

@@ -12,17 +12,17 @@ use borrow.Author.Tests.{le-leb, lt-leb}
 use lib.Dec.{leb}
 use lib.IntN.{ℤ, pos}
 use lib.ListN.{length, take, drop, set, getD, length-set}
-use lib.Seq.{paste, paste-zero, paste-suc, take-length}
+use lib.Seq.{paste, paste-zero, paste-suc, take-length, take-all}
 use Rattle.cdi.specs.Faults.{fault, Answer, accepted, refused, _andThen_}
-use Rattle.cdi.specs.Walk.{total}
-use Rattle.cdi.specs.Table.{recordsOf, tableOf}
-use Rattle.cdi.specs.Planning.{Description, described, planned, countsOf, placed, tableAfter}
+use Rattle.cdi.specs.Table.{recordsOf}
+use Rattle.cdi.specs.Planning.{Description, markup, elements, addresses, counting, described, planned, countsOf, placed, tableAfter}
 use Rattle.cdi.proofs.Quiet.{impossible}
+use Rattle.cdi.proofs.PlanOf.{length-table}
 use Rattle.scan.proofs.Tests.{lt-or-le}
 use Rattle.cdi.proofs.Room.{fits, fits-table, short, short-table, refuses, refuses-table}
 use Rattle.plan_stages.specs.declared.Planned.{Planned}
 use Rattle.plan_stages.specs.declared.Planned.the-variants.{Accepted, Refused}
-use Rattle.plan_stages.specs.Outlines.{Outline, outline, outlined, outlineOf, saidOf, Few, answerOf, putOf}
+use Rattle.plan_stages.specs.Outlines.{Outline, outline, outlined, outlineOf, ofMarkup, inRoom, saidOf, Few, answerOf, putOf, plannedBy, afterBy}
 
 -- ── the copy ──
 
@@ -90,50 +90,98 @@ pub ruleset putting = (no-room, not-put, in-room, is-put, needs)
 
 -- ── the whole plan ──
 
-module _ (b : List ℕ) (r t : List ℤ) {a : Planned} (e : saidOf a r ≡ outlineOf b) where
-  module _ {n p : ℕ} (q : a ≡ Refused n p) where
-    pub not-described : described b ≡ refused (fault n p)
-    unfolding outlineOf saidOf outlined
-    not-described = by (described b) (sym (ap (λ x. saidOf x r) q) ∙ e)
-      where
-        by : (d : Answer Description) → refused (fault n p) ≡ (d andThen outlined) → d ≡ refused (fault n p)
-        by (accepted d) x = impossible (cc)
-        by (refused f) x = cc
+-- the rows of an outline are 8 numbers for each record
+unfoldable Whole : Answer Outline → Type 0
+Whole (accepted o) = length (o .rows) ≡ 8 * o .records
+Whole (refused f) = Unit
 
-    pub not-planned : answerOf (Refused n p) ≡ planned b t
-    unfolding answerOf
-    not-planned = sym (refuses b t _ not-described)
+whole-outlined : (a : Answer Description) → Whole (a andThen outlined)
+unfolding Whole outlined
+whole-outlined (accepted d) = length-table (d .segments)
+whole-outlined (refused f) = tt
 
-    pub not-written : t ≡ tableAfter b t
-    not-written = sym (refuses-table b t _ not-described)
+whole-markup : (c : List ℕ) → Whole (ofMarkup c)
+unfolding ofMarkup
+whole-markup c = whole-outlined (markup c andThen elements andThen addresses andThen counting)
 
-  module _ {n v : ℕ} (q : a ≡ Accepted n v) where
-    -- what the text describes
-    pub is-described : {P : Type 0} → ((d : Description) → described b ≡ accepted d → n ≡ recordsOf (d .segments) → v ≡ total (d .segments) → take (8 * n) r ≡ tableOf (d .segments) → P) → P
-    unfolding outlineOf saidOf outlined
-    is-described {P} f = by (described b) refl (sym (ap (λ x. saidOf x r) q) ∙ e)
-      where
-        by : (d : Answer Description) → described b ≡ d → accepted (outline n v (take (8 * n) r)) ≡ (d andThen outlined) → P
-        by (accepted d) k x =
-            let y : outline n v (take (8 * n) r) ≡ outline (recordsOf (d .segments)) (total (d .segments)) (tableOf (d .segments)) = cc in
-            f d k (ap (λ (o : Outline). o .records) y) (ap (λ (o : Outline). o .variables) y) (ap (λ (o : Outline). o .rows) y)
-        by (refused g) k x = impossible (cc)
+-- of rows that were filled with what content describes, as far as there was room
+module _ (c : List ℕ) (r : List ℤ) (l : ℕ) {a : Planned} (e : saidOf a r ≡ (ofMarkup c andThen inRoom l)) where
+  pub not-described : {n p : ℕ} → a ≡ Refused n p → ofMarkup c ≡ refused (fault n p)
+  unfolding saidOf inRoom
+  not-described {n} {p} q = by (ofMarkup c) (sym (ap (λ x. saidOf x r) q) ∙ e)
+    where
+      by : (o : Answer Outline) → refused (fault n p) ≡ (o andThen inRoom l) → o ≡ refused (fault n p)
+      by (accepted o) x = impossible (cc)
+      by (refused f) x = cc
 
-    pub is-planned : {w : Planned} → w ≡ putOf n v (length t) → answerOf w ≡ planned b t
-    unfolding answerOf countsOf
-    is-planned {w} k = is-described λ d y i j z. ⊎-elim
-        (λ l. ap answerOf (k ∙ sym (no-room n v r t l)) ∙ sym (short b t d y (omega (arith, i))))
-        (λ l. ap answerOf (k ∙ sym (in-room n v r t l)) ∙ rw (i, j) refl ∙ sym (fits b t d y (omega (arith, i))))
-        (lt-or-le (length t) (8 * n))
+  -- the records and variables are counted whether or not there was room
+  pub is-counted : {P : Type 0} {n v : ℕ} → a ≡ Accepted n v → ((o : Outline) → ofMarkup c ≡ accepted o → n ≡ o .records → v ≡ o .variables → take (8 * n) r ≡ take l (o .rows) → length (o .rows) ≡ 8 * n → P) → P
+  unfolding saidOf inRoom Whole
+  is-counted {P} {n} {v} q f = by (ofMarkup c) refl (whole-markup c) (sym (ap (λ x. saidOf x r) q) ∙ e)
+    where
+      by : (o : Answer Outline) → ofMarkup c ≡ o → Whole o → accepted (outline n v (take (8 * n) r)) ≡ (o andThen inRoom l) → P
+      by (accepted o) k w x =
+          let y : outline n v (take (8 * n) r) ≡ outline (o .records) (o .variables) (take l (o .rows)) = cc in
+          let z : n ≡ o .records = ap (λ (i : Outline). i .records) y in
+          f o k z (ap (λ (i : Outline). i .variables) y) (ap (λ (i : Outline). i .rows) y) (w ∙ ap (λ (m : ℕ). 8 * m) (sym z))
+      by (refused g) k w x = impossible (cc)
 
-    pub is-written : {t′ : List ℤ} → t′ ≡ cond (leb (8 * n) (length t)) (placed (take (8 * n) r) t) t → t′ ≡ tableAfter b t
-    is-written {t′} k = is-described λ d y i j z. ⊎-elim
-        (λ l. k ∙ sym (not-put n v r t l) ∙ sym (short-table b t d y (omega (arith, i))))
-        (λ l. k ∙ put-all n v r t l ∙ ap (λ x. placed x t) z ∙ sym (fits-table b t d y (omega (arith, i))))
-        (lt-or-le (length t) (8 * n))
+  -- where there was room, the rows are all there
+  pub is-described : {n v : ℕ} → a ≡ Accepted n v → 8 * n ≤ l → ofMarkup c ≡ accepted (outline n v (take (8 * n) r))
+  is-described {n} {v} q h = is-counted q λ o k i j z w.
+      k ∙ sym (ap (λ x. accepted (outline n v x)) (z ∙ take-all l (o .rows) (omega (arith, w, h))) ∙ ap (λ x. accepted (outline x v (o .rows))) i ∙ ap (λ x. accepted (outline (o .records) x (o .rows))) j)
+
+  module _ (t : List ℤ) {n p : ℕ} (q : a ≡ Refused n p) where
+    pub not-planned : Refused n p ≡ plannedBy (ofMarkup c) (length t)
+    unfolding plannedBy
+    not-planned = sym (rw (not-described q))
+
+    pub not-written : t ≡ afterBy (ofMarkup c) t
+    unfolding afterBy
+    not-written = sym (rw (not-described q))
+
+  module _ (t : List ℤ) {n v : ℕ} (q : a ≡ Accepted n v) (m : length r ≡ l) (h : 8 * n ≤ length r) where
+    pub is-planned : {w : Planned} → w ≡ putOf n v (length t) → w ≡ plannedBy (ofMarkup c) (length t)
+    unfolding plannedBy
+    is-planned k = k ∙ sym (rw (is-described q (omega arith)))
+
+    pub is-written : {t′ : List ℤ} → t′ ≡ cond (leb (8 * n) (length t)) (placed (take (8 * n) r) t) t → t′ ≡ afterBy (ofMarkup c) t
+    unfolding afterBy
+    is-written k = k ∙ sym (rw (is-described q (omega arith)))
 
 pub few-told : {a : Planned} {n v : ℕ} → Few a → a ≡ Accepted n v → n ≤ 4096
 unfolding Few
 few-told {a} {n} {v} f q = rw q at f
 
+-- rows for 4,096 records are enough
+pub roomy : {a : Planned} {n v k : ℕ} → Few a → a ≡ Accepted n v → 32768 ≤ k → 8 * n ≤ k
+roomy f q h = omega (arith, few-told f q)
+
 pub ruleset planning = (not-planned, not-written, is-planned, is-written, few-told, needs)
+
+-- ── the definitions of planning, by the outline ──
+
+module _ (b : List ℕ) (t : List ℤ) where
+  planned-by : (a : Answer Description) → described b ≡ a → answerOf (plannedBy (a andThen outlined) (length t)) ≡ planned b t
+  unfolding outlined plannedBy putOf answerOf countsOf
+  planned-by (accepted d) q = ⊎-elim
+      (λ (h : length t < 8 * recordsOf (d .segments)). rw (lt-leb _ _ h) (sym (short b t d q h)))
+      (λ (h : 8 * recordsOf (d .segments) ≤ length t). rw (le-leb _ _ h) (sym (fits b t d q h)))
+      (lt-or-le (length t) (8 * recordsOf (d .segments)))
+  planned-by (refused f) q = sym (refuses b t f q)
+
+  written-by : (a : Answer Description) → described b ≡ a → afterBy (a andThen outlined) t ≡ tableAfter b t
+  unfolding outlined afterBy
+  written-by (accepted d) q = ⊎-elim
+      (λ (h : length t < 8 * recordsOf (d .segments)). rw (lt-leb _ _ h) (sym (short-table b t d q h)))
+      (λ (h : 8 * recordsOf (d .segments) ≤ length t). rw (le-leb _ _ h) (sym (fits-table b t d q h)))
+      (lt-or-le (length t) (8 * recordsOf (d .segments)))
+  written-by (refused f) q = sym (refuses-table b t f q)
+
+  pub planned-so : {r : Planned} → r ≡ plannedBy (outlineOf b) (length t) → answerOf r ≡ planned b t
+  unfolding outlineOf
+  planned-so k = ap answerOf k ∙ planned-by (described b) refl
+
+  pub written-so : {u : List ℤ} → u ≡ afterBy (outlineOf b) t → u ≡ tableAfter b t
+  unfolding outlineOf
+  written-so k = k ∙ written-by (described b) refl

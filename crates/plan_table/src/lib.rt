@@ -26,8 +26,8 @@ fn copy(rows: &[i64], table: &mut [i64])
 
 // Stage 13: the rows of so many records go to the front of the table, where they fit.
 pub fn put(rows: &[i64], records: usize, variables: u64, table: &mut [i64]) -> Planned
-    requires { ⌜ (records ≤ 4096) × (32768 ≤ length (now rows)) ⌝ }
-    ensures answer { λ r. ⌜ r ≡ putOf records variables (length (now (table .entry))) ⌝ }
+    requires { ⌜ 8 * records ≤ length (now rows) ⌝ }
+    ensures answer { λ r. ⌜ (r ≡ putOf records variables (length (now (table .entry)))) × (8 * records ≤ length (now (rows .entry))) ⌝ }
     ensures after { λ _. ⌜ now (table .exit) ≡ cond (leb (8 * records) (length (now (table .entry)))) (placed (take (8 * records) (now (rows .entry))) (now (table .entry))) (now (table .entry)) ⌝ }
 {
     let size = FIELDS * records;

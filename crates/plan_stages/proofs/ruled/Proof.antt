@@ -1,4 +1,3 @@
-use borrow.Author.Needs.{needs}
 use Rattle.plan_stages.proofs.Settling.{settling}
 use Rattle.plan_stages.proofs.ruled.Statement.{statement}
 use Rattle.plan_stages.proofs.ruled.Tie as tie
@@ -6,7 +5,5 @@ use Rattle.plan_stages.proofs.ruled.Tie as tie
 pub ruled-spec : {M : Type 1} → statement M
 ruled-spec =
     tie.close (tie.spec
-    (λ c. search needs)
-    (λ c. search needs)
     (λ c. search settling)
     (λ c. search settling))

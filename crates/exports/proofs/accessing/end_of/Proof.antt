@@ -1,5 +1,5 @@
 use borrow.Author.Needs.{needs}
-use Rattle.access_sought.specs.Told.{checkedOf}
+use Rattle.access_checked.specs.Told.{checkedOf}
 use Rattle.exports.specs.Accesses.{endKnown}
 use Rattle.exports.proofs.accessing.end_of.Statement.{statement}
 use Rattle.exports.proofs.accessing.end_of.Tie as tie

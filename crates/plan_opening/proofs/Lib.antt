@@ -1,0 +1,3 @@
+pub mod Opening
+pub mod Lent
+pub mod Once
