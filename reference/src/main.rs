@@ -3,6 +3,7 @@
 use std::io::{self, BufReader, BufWriter, Read, Write};
 use std::process::ExitCode;
 
+use reference::cases::reached::Reached;
 use reference::cases::stats::Shares;
 use reference::cases::{Sort, Stream};
 use reference::listing::listing;
@@ -77,20 +78,21 @@ fn options(words: &[&str]) -> Option<Options> {
     Some(Options { seed: seed?, count: count?, sort: kind?, small, stats })
 }
 
-/// Writes the frames of a stream, or the shares of its answers.
+/// Writes the frames of a stream, or the shares of its answers and what its planning cases reach.
 fn cases(options: &Options) -> io::Result<ExitCode> {
     let mut output = BufWriter::new(io::stdout().lock());
     let stream = Stream::new(options.seed, options.sort, options.small);
-    let mut shares = Shares::default();
+    let (mut shares, mut reached) = (Shares::default(), Reached::default());
     for index in 0..options.count {
         let case = stream.case(index);
         if options.stats {
             shares.add(&case);
+            reached.add(&case);
         } else {
             output.write_all(&frame(&case))?;
         }
     }
-    for line in shares.lines() {
+    for line in shares.lines().into_iter().chain(reached.lines()) {
         writeln!(output, "{line}")?;
     }
     output.flush()?;

@@ -160,10 +160,11 @@ fn attribute(reader: &mut Reader) -> Cut<Attribute> {
     Ok(Attribute { name, value, name_place, value_place })
 }
 
-fn start_tag(reader: &mut Reader) -> Cut<Kind> {
+/// A start tag by every rule but one: a name may stand twice.
+fn tag(reader: &mut Reader) -> Cut<Kind> {
     reader.must(b"<")?;
     let name = reader.name()?;
-    let mut attributes: Vec<Attribute> = Vec::new();
+    let mut attributes = Vec::new();
     let closed = loop {
         let blanks = reader.blanks();
         if reader.takes(b">") {
@@ -175,13 +176,30 @@ fn start_tag(reader: &mut Reader) -> Cut<Kind> {
         if blanks == 0 {
             return Err(Off::Malformed);
         }
-        let found = attribute(reader)?;
-        if attributes.iter().any(|earlier| earlier.name == found.name) {
-            return Err(Off::Malformed);
-        }
-        attributes.push(found);
+        attributes.push(attribute(reader)?);
     };
     Ok(Kind::StartTag { name, attributes, closed })
+}
+
+/// Whether a name stands twice.
+fn is_twice(attributes: &[Attribute]) -> bool {
+    let again = |i: usize| attributes[..i].iter().any(|earlier| earlier.name == attributes[i].name);
+    (0..attributes.len()).any(again)
+}
+
+fn start_tag(reader: &mut Reader) -> Cut<Kind> {
+    let kind = tag(reader)?;
+    match &kind {
+        Kind::StartTag { attributes, .. } if is_twice(attributes) => Err(Off::Malformed),
+        _ => Ok(kind),
+    }
+}
+
+/// The start tag at a place whose one fault, if it has any, is a name that stands twice.
+pub fn tag_at(content: &[u8], place: usize) -> Option<Piece> {
+    let mut reader = Reader { content, at: place };
+    let kind = tag(&mut reader).ok()?;
+    Some(Piece { place, end: reader.at, kind })
 }
 
 /// Whether an attribute's value has a `&`.

@@ -1,5 +1,6 @@
 //! The streams of cases: frames that round-trip, shares of answers, and what small cases keep to.
 
+use reference::cases::reached::{labels as things, Reached};
 use reference::cases::stats::Shares;
 use reference::cases::{boundaries, is_small, Sort, Stream};
 use reference::{answer, frame, line, Case, Frames, Leaf};
@@ -87,6 +88,71 @@ fn each_answer_has_its_share() {
             assert!(shares.percent(kind, &label) >= 1.0, "{kind} {label} {}", shares.percent(kind, &label));
         }
     }
+}
+
+/// Each thing that a planner may read in a way of its own, by the independent program's reading.
+#[test]
+fn the_planning_stream_reaches_each_way() {
+    let stream = Stream::new(1, Sort::Plan, false);
+    let mut reached = Reached::default();
+    (0..20_000).for_each(|index| reached.add(&stream.case(index)));
+    for thing in things() {
+        assert!(reached.count(&thing) >= 20, "{thing}: {}", reached.count(&thing));
+    }
+}
+
+/// A text with this in a segment.
+fn in_segment(inside: &str) -> Vec<u8> {
+    let head = "<?xml version=\"1.0\"?>\n<cdi xmlns:xsi='http://www.w3.org/2001/XMLSchema-instance' \
+        xsi:noNamespaceSchemaLocation='http://openlcb.org/schema/cdi/1/3/cdi.xsd'><segment space='1'>";
+    format!("{head}{inside}</segment></cdi>\0").into_bytes()
+}
+
+/// What one text shows, but for the bytes of attributes.
+fn shown(room: u64, inside: &str) -> Vec<String> {
+    let mut reached = Reached::default();
+    reached.add(&Case::Plan { room, text: in_segment(inside) });
+    let things = things().into_iter().filter(|thing| reached.count(thing) > 0);
+    things.filter(|thing| !thing.starts_with("attributes of")).collect()
+}
+
+#[test]
+fn what_a_text_reaches() {
+    for (inside, thing) in [
+        ("<name>x</name>", "leaf: plain"),
+        ("<name>x</name >", "leaf: a blank in its end tag"),
+        ("<name >x</name>", "leaf: a blank before `>` of its start tag"),
+        ("<name/>", "leaf: short form"),
+        ("<name>a<!---->b</name>", "leaf: a comment"),
+        ("<name>a]]>b</name>", "leaf: `]]>` in its text"),
+        ("<name>a]>b</name>", "leaf: `>` in its text"),
+        ("<name>x</nam>", "leaf: an end tag that begins its name"),
+        ("<name>x</names>", "leaf: an end tag that its name begins"),
+        ("<name>x", "leaf: another end tag"),
+        ("<names>x</names>", "leaf: an unknown name that begins as a known one"),
+        ("<int/><name>x</name>", "leaf: out of order"),
+        ("<int><max></max></int>", "leaf: max empty"),
+        ("<int><min>18446744073709551616</min></int>", "leaf: min out of range"),
+        ("<int><map><relation><property> </property></relation></map></int>", "leaf: property not a number"),
+        ("<int a='' b='' c=''/>", "3 attributes, names distinct, all unknown"),
+    ] {
+        assert_eq!(shown(8, inside), [thing], "{inside}");
+    }
+    let double = ["first", "last"].map(|spot| format!("3 attributes, a known name twice, with the {spot}"));
+    assert_eq!(shown(8, "<int size='1' b='' size='2'/>"), double);
+    // Several ways at once, no end, or an unknown parent show none.
+    for inside in ["<name a='' >x</name >", "<name>x<!--", "<name>x<", "<a><name>x</name></a>"] {
+        assert!(shown(8, inside).is_empty(), "{inside}: {:?}", shown(8, inside));
+    }
+}
+
+#[test]
+fn which_texts_are_planned_twice() {
+    let records = |count: usize, room: u64| shown(room, &"<int/>".repeat(count - 1));
+    assert!(records(127, 8 * 127).is_empty());
+    assert_eq!(records(128, 1_024), ["128 records in up to 4096 bytes, table fits"]);
+    assert_eq!(records(129, 1_024), ["129 records in up to 4096 bytes, table one record short"]);
+    assert_eq!(records(1_026, 0), ["more than 1025 records in up to 32768 bytes, table of length 0"]);
 }
 
 #[test]

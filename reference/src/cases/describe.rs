@@ -71,7 +71,7 @@ fn offset(random: &mut Random, node: Node) -> Node {
     node.with("offset", spelled)
 }
 
-fn shuffle(random: &mut Random, node: &mut Node) {
+pub fn shuffle(random: &mut Random, node: &mut Node) {
     for last in (1..node.attributes.len()).rev() {
         let other = random.below(last + 1);
         node.attributes.swap(last, other);

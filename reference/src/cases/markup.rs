@@ -67,6 +67,24 @@ impl Node {
         }
         None
     }
+
+    /// The item that the element with this number is, in document order from 1 on.
+    pub fn item_mut(&mut self, number: usize) -> Option<&mut Item> {
+        let mut left = number.checked_sub(1)?;
+        for item in &mut self.items {
+            let Item::Node(node) = item else { continue };
+            let elements = node.elements();
+            if left == 0 {
+                return Some(item);
+            }
+            if left < elements {
+                let Item::Node(node) = item else { return None };
+                return node.item_mut(left);
+            }
+            left -= elements;
+        }
+        None
+    }
 }
 
 /// An empty root with its two attributes.

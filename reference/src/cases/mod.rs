@@ -7,6 +7,8 @@ pub mod damage;
 pub mod describe;
 pub mod leaves;
 pub mod markup;
+pub mod reached;
+pub mod shapes;
 pub mod stats;
 pub mod tables;
 pub mod texts;
@@ -30,6 +32,8 @@ pub enum Sort {
 
 /// One case in so many is a boundary case.
 const BOUNDARY_EVERY: u64 = 4;
+/// So many of a hundred random planning cases are of the shapes that a planner may read in a way of their own.
+const SHAPED: usize = 17;
 
 pub struct Stream {
     seed: u64,
@@ -128,6 +132,9 @@ fn plan_case(random: &mut Random, small: bool) -> Case {
     let measure = if small { &describe::SMALL } else { &describe::USUAL };
     if !small && random.below(300) == 0 {
         return Case::Plan { room: random.pick(&[0, 400, 32_760, 40_000]), text: texts::long(random, measure) };
+    }
+    if !small && random.chance(SHAPED) {
+        return shapes::case(random);
     }
     if random.chance(40) {
         let text = texts::damaged(random, measure);

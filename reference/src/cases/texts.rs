@@ -35,12 +35,12 @@ const SEQUENCES: [&[u8]; 34] = [
     b"\xF5\x80\x80\x80", b"\xFF", b"\xFE", b"\x80", b"\xE2\x82",
 ];
 
-fn oddness(random: &mut Random) -> usize {
+pub fn oddness(random: &mut Random) -> usize {
     random.pick(&[0, 0, 4, 15])
 }
 
 /// Content with its zero, now and then with more bytes behind.
-fn ended(random: &mut Random, mut content: Vec<u8>) -> Vec<u8> {
+pub fn ended(random: &mut Random, mut content: Vec<u8>) -> Vec<u8> {
     content.push(0);
     if random.chance(10) {
         for _ in 0..random.below(12) {

@@ -55,7 +55,7 @@ pub(super) fn int_with(size: &str, min: Option<i128>, max: Option<i128>) -> Node
 }
 
 /// The root's start tag.
-pub(super) fn root_tag() -> String {
+pub(in crate::cases) fn root_tag() -> String {
     let text = plain(&root());
     let content = String::from_utf8_lossy(&text[FIRST_LINE.len()..text.len() - 1]).into_owned();
     content.replace("/>", ">")
