@@ -3,6 +3,7 @@
 mod accessing;
 mod answers;
 mod characters;
+mod gate;
 mod plain;
 mod planner;
 mod planning;

@@ -2,7 +2,7 @@
 
 use crate::answers::{answer_all, lent};
 use crate::planner::{self, Counts, Refusal};
-use crate::{stack, texts};
+use crate::{gate, stack, texts};
 use std::hint::black_box;
 use std::time::Instant;
 
@@ -42,7 +42,7 @@ fn plain(text: &[u8], table: &mut [i64]) -> Answer {
 pub const ROOM: usize = 8 * 4095;
 
 /// The answer of both, which must be the same, and so must the tables.
-fn agreed(what: &str, text: &[u8]) -> Answer {
+pub fn agreed(what: &str, text: &[u8]) -> Answer {
     let (mut mine, mut theirs) = (lent(ROOM), lent(ROOM));
     let answer = proved(text, &mut mine);
     assert_eq!(answer, plain(text, &mut theirs), "{what}");
@@ -60,7 +60,7 @@ fn time(plan: Planner, text: &[u8], table: &mut [i64], calls: usize) -> f64 {
 }
 
 /// The least times of the two, in turns.
-fn least(text: &[u8], calls: usize, rounds: usize) -> (f64, f64) {
+pub fn least(text: &[u8], calls: usize, rounds: usize) -> (f64, f64) {
     let mut table = lent(ROOM);
     let mut best = (f64::MAX, f64::MAX);
     for _ in 0..rounds {
@@ -77,9 +77,10 @@ fn told(answer: Answer) -> String {
     }
 }
 
-type Text = (&'static str, Vec<u8>);
+pub type Text = (&'static str, Vec<u8>);
 
-fn texts() -> [Text; 6] {
+/// The texts that planning is timed on.
+pub fn texts() -> [Text; 6] {
     [
         ("2 KB", texts::ordinary(2_000)),
         ("15 KB", texts::ordinary(15_000)),
@@ -131,6 +132,7 @@ pub fn asked() -> bool {
     let words: Vec<&str> = words.iter().map(String::as_str).collect();
     match words.as_slice() {
         ["planning"] => measure(),
+        ["gate"] => std::process::exit(!gate::passed() as i32),
         ["answers", "plain"] => answer_all(plain).expect("cases"),
         ["answers", "proved"] => answer_all(proved).expect("cases"),
         ["repeat", "plain", length, calls] => repeat(plain, number(length), number(calls)),
