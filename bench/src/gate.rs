@@ -1,6 +1,6 @@
 //! The check of the planner's speed: its time on each text beside the plain planner's, held to one bound. A call that is no longer inlined shows here.
 
-use crate::planning::{agreed, least, texts, Text};
+use crate::planning::{agreed, least, texts, Text, ROOM};
 
 /// The most that the proved planner may take, in times of the plain one.
 const BOUND: f64 = 1.3;
@@ -17,7 +17,7 @@ struct Times {
 
 impl Times {
     fn of(text: &[u8]) -> Times {
-        let (proved, plain) = least(text, 1 + 100_000 / text.len(), ROUNDS);
+        let (proved, plain) = least(text, ROOM, 1 + 100_000 / text.len(), ROUNDS);
         Times { proved, plain }
     }
 
@@ -42,7 +42,7 @@ fn timed(text: &[u8]) -> (Times, usize) {
 
 /// Times one text and prints its row; what it is called and its ratio, where that is above the bound.
 fn row((what, text): &Text) -> Option<String> {
-    let _ = agreed(what, text);
+    let _ = agreed(what, text, ROOM);
     let (times, count) = timed(text);
     let (proved, plain, ratio) = (times.proved * 1e6, times.plain * 1e6, times.ratio());
     println!("{what:<20} {:>6} {proved:>10.1} {plain:>10.1} {ratio:>6.2} {count:>6}", text.len());

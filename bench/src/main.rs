@@ -4,11 +4,14 @@ mod accessing;
 mod answers;
 mod characters;
 mod gate;
+mod growth;
+mod kinds;
 mod plain;
 mod planner;
 mod planning;
 mod print;
 mod printing;
+mod refusing;
 mod stack;
 mod texts;
 

@@ -2,7 +2,7 @@
 
 use crate::answers::{answer_all, lent};
 use crate::planner::{self, Counts, Refusal};
-use crate::{gate, stack, texts};
+use crate::{gate, growth, refusing, stack, texts};
 use std::hint::black_box;
 use std::time::Instant;
 
@@ -41,9 +41,9 @@ fn plain(text: &[u8], table: &mut [i64]) -> Answer {
 /// The numbers of as many records as a text can have.
 pub const ROOM: usize = 8 * 4095;
 
-/// The answer of both, which must be the same, and so must the tables.
-pub fn agreed(what: &str, text: &[u8]) -> Answer {
-    let (mut mine, mut theirs) = (lent(ROOM), lent(ROOM));
+/// The answer of both with tables of so many numbers, which must be the same, and so must the tables.
+pub fn agreed(what: &str, text: &[u8], room: usize) -> Answer {
+    let (mut mine, mut theirs) = (lent(room), lent(room));
     let answer = proved(text, &mut mine);
     assert_eq!(answer, plain(text, &mut theirs), "{what}");
     assert!(mine == theirs, "{what}: the tables differ");
@@ -59,9 +59,9 @@ fn time(plan: Planner, text: &[u8], table: &mut [i64], calls: usize) -> f64 {
     begun.elapsed().as_secs_f64() / calls as f64
 }
 
-/// The least times of the two, in turns.
-pub fn least(text: &[u8], calls: usize, rounds: usize) -> (f64, f64) {
-    let mut table = lent(ROOM);
+/// The least times of the two, in turns, with a table of so many numbers.
+pub fn least(text: &[u8], room: usize, calls: usize, rounds: usize) -> (f64, f64) {
+    let mut table = lent(room);
     let mut best = (f64::MAX, f64::MAX);
     for _ in 0..rounds {
         best.0 = best.0.min(time(proved, text, &mut table, calls));
@@ -70,7 +70,7 @@ pub fn least(text: &[u8], calls: usize, rounds: usize) -> (f64, f64) {
     best
 }
 
-fn told(answer: Answer) -> String {
+pub fn told(answer: Answer) -> String {
     match answer {
         Ok(counts) => format!("{} records, {} variables", counts.records, counts.variables),
         Err(refusal) => format!("refused {} at {}", refusal.number, refusal.place),
@@ -93,15 +93,15 @@ pub fn texts() -> [Text; 6] {
 
 /// Times both planners on a text.
 fn compare((what, text): &Text) {
-    let answer = agreed(what, text);
-    let (proved, plain) = least(text, 1 + 100_000 / text.len(), 200);
+    let answer = agreed(what, text, ROOM);
+    let (proved, plain) = least(text, ROOM, 1 + 100_000 / text.len(), 200);
     let (mine, theirs, ratio) = (proved * 1e6, plain * 1e6, proved / plain);
     println!("planning, {what} ({} bytes, {}):", text.len(), told(answer));
     println!("  proved {mine:.1} us, plain {theirs:.1} us, ratio {ratio:.2}");
 }
 
 /// Measures the stack of one proved call.
-fn fathom((what, text): &Text) {
+pub fn fathom((what, text): &Text) {
     let mut table = lent(ROOM);
     let bytes = stack::used(|| {
         let _ = black_box(proved(text, &mut table));
@@ -132,6 +132,8 @@ pub fn asked() -> bool {
     let words: Vec<&str> = words.iter().map(String::as_str).collect();
     match words.as_slice() {
         ["planning"] => measure(),
+        ["growth"] => growth::measure(),
+        ["refused"] => refusing::measure(),
         ["gate"] => std::process::exit(!gate::passed() as i32),
         ["answers", "plain"] => answer_all(plain).expect("cases"),
         ["answers", "proved"] => answer_all(proved).expect("cases"),

@@ -2,7 +2,7 @@
 
 use std::fmt::Write;
 
-const HEAD: &str = "<?xml version=\"1.0\"?>\n<cdi xmlns:xsi=\"http://www.w3.org/2001/XMLSchema-instance\" \
+pub const HEAD: &str = "<?xml version=\"1.0\"?>\n<cdi xmlns:xsi=\"http://www.w3.org/2001/XMLSchema-instance\" \
     xsi:noNamespaceSchemaLocation=\"http://openlcb.org/schema/cdi/1/3/cdi.xsd\">\n";
 
 const IDENTIFICATION: &str = "  <identification>\n    <manufacturer>Example Works</manufacturer>\n    <model>Signal Driver 8</model>\n    \
@@ -60,10 +60,10 @@ pub fn million() -> Vec<u8> {
     text.into_bytes()
 }
 
-const SEGMENT: &str = "<segment space=\"253\">";
+pub const SEGMENT: &str = "<segment space=\"253\">";
 
 /// The start tags of all levels down to this one.
-fn levels(last: usize) -> String {
+pub fn levels(last: usize) -> String {
     format!("{HEAD}{SEGMENT}{}", "<group replication=\"1\">".repeat(last - 2))
 }
 
@@ -78,11 +78,11 @@ pub fn deepest() -> Vec<u8> {
     text.into_bytes()
 }
 
-/// Thousands of attributes, up to this many bytes.
-fn attributes(text: &mut String, length: usize) {
+/// Attributes of these names, up to this many bytes.
+fn attributes(text: &mut String, length: usize, name: impl Fn(usize) -> String) {
     let mut n = 0;
     while text.len() < length {
-        let _ = write!(text, " a{n}=''");
+        let _ = write!(text, " {}=''", name(n));
         n += 1;
     }
 }
@@ -91,7 +91,7 @@ fn attributes(text: &mut String, length: usize) {
 pub fn widest() -> Vec<u8> {
     let mut text = levels(2);
     text.push_str("<int");
-    attributes(&mut text, 65_000);
+    attributes(&mut text, 65_000, |n| format!("a{n}"));
     text.push_str("/></segment></cdi>\0");
     text.into_bytes()
 }
@@ -100,7 +100,16 @@ pub fn widest() -> Vec<u8> {
 pub fn steepest() -> Vec<u8> {
     let mut text = levels(24);
     text.push_str("<int");
-    attributes(&mut text, 65_000);
+    attributes(&mut text, 65_000, |n| format!("a{n}"));
     text.push_str(" a1=''/>\0");
+    text.into_bytes()
+}
+
+/// Such a tag there whose names are beginnings of each other.
+pub fn nested_names() -> Vec<u8> {
+    let mut text = levels(24);
+    text.push_str("<int");
+    attributes(&mut text, 65_000, |n| "a".repeat(n + 1));
+    text.push_str("/>\0");
     text.into_bytes()
 }
