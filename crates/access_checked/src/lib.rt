@@ -30,6 +30,9 @@ const MORE: usize = 1024;
 
 const MANY: usize = 4096;
 
+// No content is as long as this.
+const BEYOND: usize = 65536;
+
 // Is the table that of so many records, all of which these rows have?
 fn is_planned(table: &[i64], rows: &[i64], records: usize) -> bool
     requires { ⌜ records ≤ 4096 ⌝ }
@@ -64,21 +67,28 @@ fn compared(told: Planned, rows: &[i64], table: &[i64], end: usize) -> Checked
     }
 }
 
-// Stages 4 to 12 of content that begins with the first line, and 20, with rows for 4,096 records.
-fn compare_many(content: &[u8], table: &[i64]) -> Checked
+// Stages 4 to 12 of content that begins with the first line, and 20, with rows for 4,096 records. `again` is 0 at each call: a function that calls itself
+// isn't compiled into its callers, so that their frames don't hold its rows.
+fn compare_many(content: &[u8], table: &[i64], again: usize) -> Checked
     requires { ⌜ (22 ≤ length (now content)) × (length (now content) ≤ 65535) ⌝ }
     ensures { λ r. ⌜ checkedOf r ≡ comparedOf (now (content .entry)) (now (table .entry)) ⌝ }
 {
+    if 0 < again {
+        return compare_many(content, table, again - 1);
+    }
     let mut rows = [0i64; FIELDS * MANY];
     let told = outline(content, &mut rows);
     compared(told, &rows, table, content.len())
 }
 
 // The same for a table of at most 1,024 records.
-fn compare_more(content: &[u8], table: &[i64]) -> Checked
+fn compare_more(content: &[u8], table: &[i64], again: usize) -> Checked
     requires { ⌜ (22 ≤ length (now content)) × (length (now content) ≤ 65535) × (length (now table) ≤ 8192) ⌝ }
     ensures { λ r. ⌜ checkedOf r ≡ comparedOf (now (content .entry)) (now (table .entry)) ⌝ }
 {
+    if 0 < again {
+        return compare_more(content, table, again - 1);
+    }
     let mut rows = [0i64; FIELDS * MORE];
     let told = outline(content, &mut rows);
     compared(told, &rows, table, content.len())
@@ -99,13 +109,14 @@ fn compare(content: &[u8], table: &[i64]) -> Checked
     requires { ⌜ (22 ≤ length (now content)) × (length (now content) ≤ 65535) ⌝ }
     ensures { λ r. ⌜ checkedOf r ≡ comparedOf (now (content .entry)) (now (table .entry)) ⌝ }
 {
+    let again = content.len() / BEYOND;
     if table.len() <= FIELDS * FEW {
         return compare_few(content, table);
     }
     if table.len() <= FIELDS * MORE {
-        return compare_more(content, table);
+        return compare_more(content, table, again);
     }
-    compare_many(content, table)
+    compare_many(content, table, again)
 }
 
 // Is the text accepted, and the table exactly the one planned from it?

@@ -26,12 +26,19 @@ const SHORT: usize = 4096;
 
 const LONGER: usize = 32768;
 
-// Stages 4 to 13 of content that begins with the first line, with rows for 4,096 records.
-fn plan_many(content: &[u8], table: &mut [i64]) -> Planned
+// No content is as long as this.
+const BEYOND: usize = 65536;
+
+// Stages 4 to 13 of content that begins with the first line, with rows for 4,096 records. `again` is 0 at each call: a function that calls itself isn't
+// compiled into its callers, so that their frames don't hold its rows.
+fn plan_many(content: &[u8], table: &mut [i64], again: usize) -> Planned
     requires { ⌜ (22 ≤ length (now content)) × (length (now content) ≤ 65535) ⌝ }
     ensures answer { λ r. ⌜ r ≡ plannedBy (ofMarkup (now (content .entry))) (length (now (table .entry))) ⌝ }
     ensures after { λ _. ⌜ now (table .exit) ≡ afterBy (ofMarkup (now (content .entry))) (now (table .entry)) ⌝ }
 {
+    if 0 < again {
+        return plan_many(content, table, again - 1);
+    }
     let mut rows = [0i64; FIELDS * MANY];
     let told = outline(content, &mut rows);
     match told {
@@ -41,18 +48,21 @@ fn plan_many(content: &[u8], table: &mut [i64]) -> Planned
 }
 
 // The same with rows for 1,024 records, and with more where these are too few.
-fn plan_more(content: &[u8], table: &mut [i64]) -> Planned
+fn plan_more(content: &[u8], table: &mut [i64], again: usize) -> Planned
     requires { ⌜ (22 ≤ length (now content)) × (length (now content) ≤ 65535) ⌝ }
     ensures answer { λ r. ⌜ r ≡ plannedBy (ofMarkup (now (content .entry))) (length (now (table .entry))) ⌝ }
     ensures after { λ _. ⌜ now (table .exit) ≡ afterBy (ofMarkup (now (content .entry))) (now (table .entry)) ⌝ }
 {
+    if 0 < again {
+        return plan_more(content, table, again - 1);
+    }
     let mut rows = [0i64; FIELDS * MORE];
     let told = outline(content, &mut rows);
     match told {
         Planned::Refused { number, place } => Planned::Refused { number, place },
         Planned::Accepted { records, variables } => {
             if MORE < records {
-                return plan_many(content, table);
+                return plan_many(content, table, again);
             }
             put(&rows, records, variables, table)
         }
@@ -60,7 +70,7 @@ fn plan_more(content: &[u8], table: &mut [i64]) -> Planned
 }
 
 // The same with rows for 128 records, and with more where these are too few.
-fn plan_few(content: &[u8], table: &mut [i64]) -> Planned
+fn plan_few(content: &[u8], table: &mut [i64], again: usize) -> Planned
     requires { ⌜ (22 ≤ length (now content)) × (length (now content) ≤ 65535) ⌝ }
     ensures answer { λ r. ⌜ r ≡ plannedBy (ofMarkup (now (content .entry))) (length (now (table .entry))) ⌝ }
     ensures after { λ _. ⌜ now (table .exit) ≡ afterBy (ofMarkup (now (content .entry))) (now (table .entry)) ⌝ }
@@ -71,7 +81,7 @@ fn plan_few(content: &[u8], table: &mut [i64]) -> Planned
         Planned::Refused { number, place } => Planned::Refused { number, place },
         Planned::Accepted { records, variables } => {
             if FEW < records {
-                return plan_more(content, table);
+                return plan_more(content, table, again);
             }
             put(&rows, records, variables, table)
         }
@@ -84,13 +94,14 @@ fn plan_content(content: &[u8], table: &mut [i64]) -> Planned
     ensures answer { λ r. ⌜ r ≡ plannedBy (ofMarkup (now (content .entry))) (length (now (table .entry))) ⌝ }
     ensures after { λ _. ⌜ now (table .exit) ≡ afterBy (ofMarkup (now (content .entry))) (now (table .entry)) ⌝ }
 {
+    let again = content.len() / BEYOND;
     if content.len() <= SHORT {
-        return plan_few(content, table);
+        return plan_few(content, table, again);
     }
     if content.len() <= LONGER {
-        return plan_more(content, table);
+        return plan_more(content, table, again);
     }
-    plan_many(content, table)
+    plan_many(content, table, again)
 }
 
 // The plan of a text: its records stand at the front of the table and the rest of it is unchanged, or it is refused and the whole table is
