@@ -94,7 +94,7 @@ module _ {s : List ℕ} {left at b : ℕ} (st : State) {n child entry : ℕ} (ec
       nothing : part s (n + 1) (w .to) ≡ []
       nothing = ap (λ (k : ℕ). take k (drop (n + 1) s)) (let e : w .to - (n + 1) ≡ 0 = omega arith in e)
 
-  pub leaf-read : Fits r → ElementReads s left at b (stateOf st) t t (record { number = 0; place = l .end; begun = b + 1; state = r })
-  leaf-read fit = record { done = λ e. ⊎-elim without with-run (eq-or-ne (w .to) (n + 1)); ahead = λ e. leaf-ahead v z; fits = λ e. fit; fails = λ e. absurd (e refl) }
+  pub leaf-read : {b′ : ℕ} → b′ ≡ b + 1 → Fits r → ElementReads s left at b (stateOf st) t t (record { number = 0; place = l .end; begun = b′; state = r })
+  leaf-read e fit = rw e (record { done = λ q. ⊎-elim without with-run (eq-or-ne (w .to) (n + 1)); ahead = λ q. leaf-ahead v z; fits = λ q. fit; fails = λ q. absurd (q refl) })
 
-pub ruleset leaf-tests = (not-plain, plain-there, leaf-low, needs)
+pub ruleset leaf-tests = (not-plain, leaf-low, needs)

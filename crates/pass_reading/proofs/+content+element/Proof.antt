@@ -262,7 +262,7 @@ pub +content+element-spec : {M : Type 1} → statement M
     let name = named .before in
     let known = name .before .before .pre .1 in
     let n = name .element-name .ensures in
-    leaf-read _ (wide .wide .ensures ∙ n .1 .0) (listed .entry-of .ensures) (begin .begin .ensures .0) (begin .begin .ensures .1) (begin .begin .ensures .2) (known .2) (known .5) _ (leaf .plain-leaf .ensures (c .before .if2 .taken)) (c .before .if2 .taken) _ (c .with-leaf .ensures .0) (c .with-leaf .ensures .2) _ (c .with-leaf .ensures .1))
+    leaf-read _ (wide .wide .ensures ∙ n .1 .0) (listed .entry-of .ensures) (begin .begin .ensures .0) (begin .begin .ensures .1) (begin .begin .ensures .2) (known .2) (known .5) _ (leaf .plain-leaf .ensures (c .before .if2 .taken)) (c .before .if2 .taken) _ (c .with-leaf .ensures .0) (c .with-leaf .ensures .2) _ (omega arith) (c .with-leaf .ensures .1))
     (λ c κs. search element-ways)
     (λ c. let tag = c .before .before in
     let named = tag .before .before .before .before .before .before .before .before .before in
