@@ -1,28 +1,25 @@
--- A plain leaf: its tests, and reading it, which is entering it, one run of text or nothing, and leaving it.
-use mathlib.Core.Path.{_≡_, refl, sym, ap, _∙_}
+-- Reading a plain leaf, which is entering it, one run of text or nothing, and leaving it.
+use mathlib.Core.Path.{_≡_, refl, ap, _∙_}
 use mathlib.Core.List.{List, []}
-use mathlib.Core.Bool.{Bool, true, false, cond, not, _&&_, _||_}
+use mathlib.Core.Bool.{false}
 use mathlib.Core.Logic.{⊎-elim}
 use Prim.Native.Nat.{ℕ, _+_, _-_, _≤_, _<_}
 use native.Mathlib.Omega.{arith}
-use borrow.Author.Needs.{needs}
 use lib.IntN.{ℤ}
 use lib.ListN.{drop, take}
 use Rattle.cdi.specs.Pieces.{attributes, text}
-use Rattle.cdi.specs.Numbers.{number}
 use Rattle.scan.proofs.Tests.{eq-or-ne}
 use Rattle.names.specs.Names.{elementNumber}
 use Rattle.pieces_cuts.specs.Places.{part}
 use Rattle.pieces_cuts.specs.Cuts.{pieceOf}
 use Rattle.marks_leaf.specs.Leaves.{Leaves}
-use Rattle.marks_leaf.proofs.Told.{leaf-low, leaf-same, leaf-ahead}
-use Rattle.rules_judge.specs.declared.Said.the-variants.{Silent}
-use Rattle.rules_judge.specs.Judging.{saidBy, isValue}
+use Rattle.marks_leaf.proofs.Told.{leaf-same, leaf-ahead}
 use Rattle.rules_judge.specs.Tables.{entryAt}
-use Rattle.rules_judge.specs.Parts.{isNumeric}
 use Rattle.judges_state.specs.Decoded.{saidOf}
 use Rattle.gauges_state.specs.Flat.{gaugeOf}
 use Rattle.pass_steps.specs.Asks.{stepOf, beginFault}
+use Rattle.pass_leaves.specs.Leaves.{Plainly}
+use Rattle.pass_leaves.specs.declared.Leaf.{Leaf}
 use Rattle.pass_sums.specs.Sums.{recordsOf, enterOf, otherOf, leaveOf}
 use Rattle.pass_sums.specs.declared.State.{State as Summed}
 use Rattle.pass_laws.specs.Passing.{Passed}
@@ -31,26 +28,11 @@ use Rattle.pass_state.specs.States.{stateOf, Fits, leafOf}
 use Rattle.pass_state.specs.declared.State.{State}
 use Rattle.pass_state.proofs.Leaf.{leaf-unrecorded, leaf-unwritten, leaf-one-run, leaf-nothing}
 use Rattle.pass_reading.specs.Reading.{ElementReads}
-use Rattle.pass_reading.specs.Leaves.{Plainly}
-use Rattle.pass_reading.specs.declared.Leaf.{Leaf}
 
 -- the records that a state counts
 pub counted : (st : State) → recordsOf (stateOf st) ≡ st .gauge .records
 unfolding recordsOf stateOf gaugeOf
 counted st = refl
-
--- ── its tests ──
-
-module _ (s : List ℕ) (at n fault child entry last level : ℕ) (numeric : Bool) where
-  pub not-plain : (r : Leaf) → r .end ≡ 0 → (r .end ≡ 0 → ⊥) → Plainly s at n fault child entry last level numeric r
-  not-plain r e z = absurd (z e)
-
-  pub plain-there : {to e said m : ℕ} {good : Bool} → fault ≡ 0 → 12 ≤ child → last < entry → (level ≡ 0 → ⊥) → Leaves s at n to e → (e ≡ 0 → ⊥)
-      → saidOf said m ≡ cond (numeric && isNumeric child) (saidBy (number (part s (n + 1) to))) Silent → good ≡ (not (numeric && isNumeric child) || isValue (saidOf said 0)) → good ≡ true
-      → Plainly s at n fault child entry last level numeric (record { end = e; said = said; magnitude = m })
-  plain-there {to} f h o z v y es eg g = record { to = to; plain = v .plain y; begun = f; worded = h; later = o; inside = z; says = es; good = sym eg ∙ g }
-
--- ── reading it ──
 
 module _ {s : List ℕ} {left at b : ℕ} (st : State) {n child entry : ℕ} (ec : child ≡ elementNumber (part s (at + 1) n)) (ee : entry ≡ entryAt (st .judge .row) child)
     {m : ℕ} (f : m ≡ beginFault false left b) (one : 1 ≤ left + m) (room : b + 1 ≤ 4096 + m) (h : left ≤ 24) (few : st .gauge .records ≤ b)
@@ -96,5 +78,3 @@ module _ {s : List ℕ} {left at b : ℕ} (st : State) {n child entry : ℕ} (ec
 
   pub leaf-read : {b′ : ℕ} → b′ ≡ b + 1 → Fits r → ElementReads s left at b (stateOf st) t t (record { number = 0; place = l .end; begun = b′; state = r })
   leaf-read e fit = rw e (record { done = λ q. ⊎-elim without with-run (eq-or-ne (w .to) (n + 1)); ahead = λ q. leaf-ahead v z; fits = λ q. fit; fails = λ q. absurd (q refl) })
-
-pub ruleset leaf-tests = (not-plain, leaf-low, needs)

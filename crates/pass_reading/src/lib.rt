@@ -1,15 +1,13 @@
 // Elements and their content. Reading an element calls reading content, which calls reading an element for each child, and the depth left of 24
 // falls. With all 24 levels left nothing is open: what stands around the root is read by the same loop. A plain leaf is read without a call.
 
-use judges_leaf::is_leaf_good;
-use judges_leaf::leaf_said;
 use judges_tables::entry_of;
 use marks_ends::close;
 use marks_ends::end_tag;
-use marks_leaf::leaf_at;
 use marks_runs::run_at;
 use marks_sorts::sort_of;
 use naming_elements::element_name;
+use pass_leaves::plain_leaf;
 use pass_marks::rare_at;
 use pass_state::State;
 use pass_state::enter;
@@ -29,7 +27,6 @@ ghost use Rattle.pieces_cuts.specs.Places.{Name};
 ghost use Rattle.marks_cuts.specs.Marks.{sortAt};
 ghost use Rattle.pass_sums.specs.Sums.{atFirst};
 ghost use Rattle.pass_state.specs.States.{stateOf, Fits};
-ghost use Rattle.pass_reading.specs.Leaves.{Plainly};
 ghost use Rattle.pass_reading.specs.Reading.{ElementReads, ContentReads};
 
 // Where reading has come: `number` is 0, or that of the refusal, whose place `place` is then. Of a refused text the other two say nothing.
@@ -75,68 +72,6 @@ fn is_over(left: usize, begun: usize) -> bool
     ensures { λ r. ⌜ r ≡ (eqb left 24 && not (eqb begun 0)) ⌝ }
 {
     (left == 24) & (begun != 0)
-}
-
-// A plain leaf: the place behind it, and what it says. Where `end` is 0, it isn't known to be one.
-struct Leaf {
-    pub end: usize,
-    pub said: usize,
-    pub magnitude: u64,
-}
-
-fn no_leaf() -> Leaf
-    ensures { λ r. ⌜ r .end ≡ 0 ⌝ }
-{
-    Leaf {
-        end: 0,
-        said: 0,
-        magnitude: 0,
-    }
-}
-
-// The element at this place as a plain leaf: it holds text only, stands in a later entry than `last` and inside the root, and is a good number where it
-// must be one. `number` is that of its tag's own fault.
-fn plain_leaf(
-    s: &[u8],
-    at: usize,
-    behind: usize,
-    number: usize,
-    child: usize,
-    entry: usize,
-    last: usize,
-    level: usize,
-    numeric: bool,
-) -> Leaf
-    requires { ⌜ (sortAt (drop at (now s)) ≡ 0) × Name (now s) (at + 1) behind × (at + 1 < behind) × (behind ≤ length (now s)) ⌝ }
-    ensures { λ r. ⌜ ((r .end ≡ 0 → ⊥) → Plainly (now (s .entry)) at behind number child entry last level numeric r) ⌝ }
-{
-    if number != 0 {
-        return no_leaf();
-    }
-    if child < 12 {
-        return no_leaf();
-    }
-    if entry <= last {
-        return no_leaf();
-    }
-    if level == 0 {
-        return no_leaf();
-    }
-    let leaf = leaf_at(s, at, behind);
-    if leaf.end == 0 {
-        return no_leaf();
-    }
-    let first = behind + 1;
-    let to = leaf.to;
-    let word = leaf_said(numeric, child, &s[first..to]);
-    if is_leaf_good(numeric, child, word.said) {
-        return Leaf {
-            end: leaf.end,
-            said: word.said,
-            magnitude: word.magnitude,
-        };
-    }
-    no_leaf()
 }
 
 // The element whose `<` stands at this place, with `left` of the 24 levels for it and `begun` elements before it.

@@ -24,11 +24,11 @@ use Rattle.marks_ends.proofs.end_tag.Reads as end-tag-reads
 use Rattle.marks_runs.proofs.run_at.Reads as run-at-reads
 use Rattle.marks_sorts.proofs.sort_of.Reads as sort-of-reads
 use Rattle.naming_elements.proofs.element_name.Reads as element-name-reads
+use Rattle.pass_leaves.proofs.plain_leaf.Reads as plain-leaf-reads
 use Rattle.pass_marks.proofs.rare_at.Reads as rare-at-reads
 use Rattle.pass_reading.proofs.is_outside.Reads as is-outside-reads
 use Rattle.pass_reading.proofs.is_over.Reads as is-over-reads
 use Rattle.pass_reading.proofs.is_stray.Reads as is-stray-reads
-use Rattle.pass_reading.proofs.plain_leaf.Reads as plain-leaf-reads
 use Rattle.pass_reading.proofs.stray_number.Reads as stray-number-reads
 use Rattle.pass_reading.proofs.wide.Reads as wide-reads
 use Rattle.pass_state.proofs.enter.Reads as enter-reads

@@ -10,7 +10,7 @@ use Rattle.rules_judge.specs.declared.Said.the-variants.{Silent}
 use Rattle.rules_judge.specs.Judging.{saidBy, isValue}
 use Rattle.rules_judge.specs.Parts.{isNumeric}
 use Rattle.judges_state.specs.Decoded.{saidOf}
-use Rattle.pass_reading.specs.declared.Leaf.{Leaf}
+use Rattle.pass_leaves.specs.declared.Leaf.{Leaf}
 
 -- The element of that number and entry at a place, whose name ends before n: a plain leaf of text only, in a later entry than the last, at a level inside the
 -- root, whose tag has no fault of its own (`fault` is that number), and a number in range where it must be one.

@@ -1,7 +1,7 @@
 use borrow.Author.Needs.{needs}
-use Rattle.pass_reading.proofs.Leaves.{plain-there, leaf-tests}
-use Rattle.pass_reading.proofs.plain_leaf.Statement.{statement}
-use Rattle.pass_reading.proofs.plain_leaf.Tie as tie
+use Rattle.pass_leaves.proofs.Leaves.{plain-there, leaf-tests}
+use Rattle.pass_leaves.proofs.plain_leaf.Statement.{statement}
+use Rattle.pass_leaves.proofs.plain_leaf.Tie as tie
 
 pub plain-leaf-spec : {M : Type 1} → statement M
 plain-leaf-spec =
