@@ -17,11 +17,13 @@ use pass_state::with_leaf;
 use pass_state::with_rare;
 use pass_state::with_run;
 use pass_steps::begin;
+use pass_steps::is_outside;
+use pass_steps::is_over;
+use pass_steps::is_stray;
+use pass_steps::stray_number;
 use tags::start_tag;
 ghost use mathlib.Core.Path.{_≡_};
-ghost use mathlib.Core.Bool.{cond, not, _&&_};
 ghost use Prim.Native.Nat.{_+_, _%_, _≤_, _<_};
-ghost use lib.Dec.{eqb, ltb};
 ghost use lib.ListN.{length, drop};
 ghost use Rattle.pieces_cuts.specs.Places.{Name};
 ghost use Rattle.marks_cuts.specs.Marks.{sortAt};
@@ -41,37 +43,6 @@ fn wide(number: u8) -> usize
     ensures { λ r. ⌜ r ≡ number ⌝ }
 {
     number as usize
-}
-
-// Does text stand outside the root?
-fn is_stray(left: usize, solid: usize, end: usize) -> bool
-    ensures { λ r. ⌜ r ≡ (eqb left 24 && ltb solid end) ⌝ }
-{
-    (left == 24) & (solid < end)
-}
-
-// Does a reference?
-fn is_outside(left: usize, refers: bool) -> bool
-    ensures { λ r. ⌜ r ≡ (eqb left 24 && refers) ⌝ }
-{
-    (left == 24) & refers
-}
-
-// The number of the refusal of an end tag outside the root, which is malformed where its end is 0.
-fn stray_number(end: usize) -> usize
-    ensures { λ r. ⌜ r ≡ cond (eqb end 0) 4 6 ⌝ }
-{
-    if end == 0 {
-        return 4;
-    }
-    6
-}
-
-// Is the text over, behind the root?
-fn is_over(left: usize, begun: usize) -> bool
-    ensures { λ r. ⌜ r ≡ (eqb left 24 && not (eqb begun 0)) ⌝ }
-{
-    (left == 24) & (begun != 0)
 }
 
 // The element whose `<` stands at this place, with `left` of the 24 levels for it and `begun` elements before it.

@@ -4,6 +4,8 @@ use pieces_cuts::Cut;
 use pieces_cuts::Kind;
 use scan::same;
 ghost use mathlib.Core.Path.{_≡_};
+ghost use mathlib.Core.Bool.{cond, not, _&&_};
+ghost use lib.Dec.{eqb, ltb};
 ghost use Prim.Native.Nat.{_+_, _≤_};
 ghost use lib.ListN.{length};
 ghost use Rattle.cdi.specs.Words.{same as sameBytes};
@@ -107,4 +109,35 @@ pub fn around_root(kind: Kind, at: usize, solid: usize, stop: usize) -> Around
             place: at,
         },
     }
+}
+
+// Does text stand outside the root?
+pub fn is_stray(left: usize, solid: usize, end: usize) -> bool
+    ensures { λ r. ⌜ r ≡ (eqb left 24 && ltb solid end) ⌝ }
+{
+    (left == 24) & (solid < end)
+}
+
+// Does a reference stand outside the root?
+pub fn is_outside(left: usize, refers: bool) -> bool
+    ensures { λ r. ⌜ r ≡ (eqb left 24 && refers) ⌝ }
+{
+    (left == 24) & refers
+}
+
+// The number of the refusal of an end tag outside the root, which is malformed where its end is 0.
+pub fn stray_number(end: usize) -> usize
+    ensures { λ r. ⌜ r ≡ cond (eqb end 0) 4 6 ⌝ }
+{
+    if end == 0 {
+        return 4;
+    }
+    6
+}
+
+// Is the text over, behind the root?
+pub fn is_over(left: usize, begun: usize) -> bool
+    ensures { λ r. ⌜ r ≡ (eqb left 24 && not (eqb begun 0)) ⌝ }
+{
+    (left == 24) & (begun != 0)
 }

@@ -26,10 +26,6 @@ use Rattle.marks_sorts.proofs.sort_of.Reads as sort-of-reads
 use Rattle.naming_elements.proofs.element_name.Reads as element-name-reads
 use Rattle.pass_leaves.proofs.plain_leaf.Reads as plain-leaf-reads
 use Rattle.pass_marks.proofs.rare_at.Reads as rare-at-reads
-use Rattle.pass_reading.proofs.is_outside.Reads as is-outside-reads
-use Rattle.pass_reading.proofs.is_over.Reads as is-over-reads
-use Rattle.pass_reading.proofs.is_stray.Reads as is-stray-reads
-use Rattle.pass_reading.proofs.stray_number.Reads as stray-number-reads
 use Rattle.pass_reading.proofs.wide.Reads as wide-reads
 use Rattle.pass_state.proofs.enter.Reads as enter-reads
 use Rattle.pass_state.proofs.leave.Reads as leave-reads
@@ -37,6 +33,10 @@ use Rattle.pass_state.proofs.with_leaf.Reads as with-leaf-reads
 use Rattle.pass_state.proofs.with_rare.Reads as with-rare-reads
 use Rattle.pass_state.proofs.with_run.Reads as with-run-reads
 use Rattle.pass_steps.proofs.begin.Reads as begin-reads
+use Rattle.pass_steps.proofs.is_outside.Reads as is-outside-reads
+use Rattle.pass_steps.proofs.is_over.Reads as is-over-reads
+use Rattle.pass_steps.proofs.is_stray.Reads as is-stray-reads
+use Rattle.pass_steps.proofs.stray_number.Reads as stray-number-reads
 use Rattle.tags.proofs.start_tag.Reads as start-tag-reads
 use Rattle.pass_reading.proofs.+content+element.{statement}
 use Rattle.pass_reading.proofs.+content+element.Tie.{close}
