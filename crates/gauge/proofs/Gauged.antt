@@ -18,7 +18,7 @@ use Rattle.cdi.proofs.Ranges.{judged, judged-other}
 use Rattle.extent.specs.Reach.{nowhere}
 use Rattle.gauge_tag.specs.declared.Leaves.the-variants.{Never}
 use Rattle.gauge_tag.specs.Gauging.{Gauged, asFault, gaugeNodes, atStart}
-use Rattle.gauge_elements.proofs.Levels.{gauge, root-gauged}
+use Rattle.gauge.proofs.Levels.{gauge, root-gauged}
 use Rattle.gauge.proofs.Rows.{heldSegments}
 use Rattle.gauge.proofs.Segments.{heldTotal, firstOf, segments-gauged, Ranged, segments-ranged, leaves-told, total-told, table-told}
 

@@ -23,9 +23,9 @@ use Rattle.extent.proofs.Joins.{size-sound, join-nowhere}
 use Rattle.extent.proofs.Holding.{held-join, held-append, held-copies}
 use Rattle.gauge_tag.specs.declared.Leaves.{Leaves}
 use Rattle.gauge_tag.specs.Gauging.{Gauged, numbersOf, isGroup, kindOf, ownExtent, recordOf, gaugeNodes}
-use Rattle.gauge_elements.proofs.Levels.{gauge, gauged, group-gauged, variable-gauged, other-gauged}
+use Rattle.gauge.proofs.Levels.{gauge, gauged, group-gauged, variable-gauged, other-gauged}
 use Rattle.gauge.proofs.Tags.{offset-told, size-told, replication-least, replication-told}
-use Rattle.gauge_records.proofs.Parts.{sets-append, sets-three}
+use Rattle.gauge.proofs.Parts.{sets-append, sets-three}
 use Rattle.gauge.proofs.Rows.{heldFields, heldItems, length-held, Repeated}
 
 -- ── the extent of one data element is what is held of its own walk ──

@@ -1,5 +1,6 @@
 -- The laws of the gauge.
-pub mod Safe
+pub mod Levels
+pub mod Parts
 pub mod Tags
 pub mod Plain
 pub mod Rows
@@ -7,4 +8,3 @@ pub mod Items
 pub mod Segments
 pub mod Gauged
 pub mod Named
-pub mod Once

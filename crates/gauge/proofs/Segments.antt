@@ -25,9 +25,9 @@ use Rattle.extent.proofs.Holding.{held-keeps}
 use Rattle.gauge_tag.specs.declared.Leaves.{Leaves}
 use Rattle.gauge_tag.specs.declared.Leaves.the-variants.{Never, At}
 use Rattle.gauge_tag.specs.Gauging.{Gauged, asFault, numbersOf, isSegment, kindOf, firstLeaving, recordOf, gaugeNodes}
-use Rattle.gauge_elements.proofs.Levels.{gauge, gauged, segment-gauged, aside-gauged}
+use Rattle.gauge.proofs.Levels.{gauge, gauged, segment-gauged, aside-gauged}
 use Rattle.gauge.proofs.Tags.{origin-most, origin-told, space-told}
-use Rattle.gauge_records.proofs.Parts.{sets-three}
+use Rattle.gauge.proofs.Parts.{sets-three}
 use Rattle.gauge.proofs.Plain.{Plain, kept-spans, count-held}
 use Rattle.gauge.proofs.Rows.{heldFields, heldItems, heldSegments, length-held, Repeated, fields-told, items-told}
 use Rattle.gauge.proofs.Items.{items-gauged, items-repeated}

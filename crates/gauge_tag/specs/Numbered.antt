@@ -1,15 +1,13 @@
 -- The gauge by an element's number, which stands for its name, and by the numbers of its tag.
 use mathlib.Core.List.{List, [], _∷_}
 use mathlib.Core.Bool.{Bool, cond, _&&_, _||_}
-use mathlib.Core.Option.{Option}
 use Prim.Native.Nat.{ℕ, _+_, _*_, _-_, _^_, _≤_, min}
 use lib.IntN.{ℤ, pos, negℤ}
 use lib.Dec.{eqb}
 use lib.Seq.{sets}
-use Rattle.cdi.specs.Words.{ascii, _>>=_, between}
+use Rattle.cdi.specs.Words.{ascii, between}
 use Rattle.cdi.specs.Pieces.{Attribute}
-use Rattle.cdi.specs.Numbers.{number}
-use Rattle.cdi.specs.Rules.{valueOf, natural, sizeOf}
+use Rattle.cdi.specs.Rules.{natural, sizeOf}
 use Rattle.cdi.specs.Plans.{offsetFits}
 use Rattle.cdi.specs.Planning.{numberOr, offsetOf}
 use Rattle.extent.specs.Reach.{Small, nowhere, byOffset, bySize, join, repeat, fitsAt, held}
@@ -40,10 +38,6 @@ pub record Ranged (m : Numbers) : Type 0 where
 
 unfoldable pub sizeBy : ℕ → List Attribute → ℕ
 sizeBy e s = from-to 1 65535 1 (cond (eqb e 8) 8 (sizeOf s))
-
--- the number in the attribute of that name, if there is one
-unfoldable pub numberIn : List ℕ → List Attribute → Option ℤ
-numberIn n s = valueOf n s >>= number
 
 -- a number in its range, or its least
 unfoldable pub naturalIn : ℕ → ℕ → List ℕ → List Attribute → ℕ
@@ -141,5 +135,5 @@ unfoldable pub writtenBy : Gauge → ℕ → ℕ → Numbers → Gauge → List 
 writtenBy g p e m i t = cond (recordedBy (g .level) e) (sets t (g .records * 8) (recordBy g p e m i)) t
 
 unfoldable pub numbered-page : Unit {0}
-unfolding sizeBy numberIn naturalIn offsetIn numbersBy segmentAt dataAt groupAt recordedBy levelBy enterBy ownBy leaveBy kindBy addressBy widthBy copiesBy toldBy recordBy writtenBy
+unfolding sizeBy naturalIn offsetIn numbersBy segmentAt dataAt groupAt recordedBy levelBy enterBy ownBy leaveBy kindBy addressBy widthBy copiesBy toldBy recordBy writtenBy
 numbered-page = tt

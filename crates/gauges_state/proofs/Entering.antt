@@ -8,7 +8,6 @@ use Rattle.extent.specs.Reach.{Small, nowhere}
 use Rattle.extent.specs.declared.Extent.{Extent}
 use Rattle.gauge_tag.specs.Gauging.{atStart}
 use Rattle.gauge_tag.specs.Numbered.{recordedBy, levelBy, enterBy}
-use Rattle.gauge_tag.specs.Numbered as N
 use Rattle.gauges_state.specs.declared.Gauge.{Gauge}
 use Rattle.gauges_state.specs.Flat.{leavesOf, gaugeOf, Kept}
 
@@ -26,15 +25,6 @@ or-calls e f = rw (e, f)
 -- a gauge of these numbers
 abbrev pub flat : Extent → ℕ → ℕ → ℕ → ℕ → ℕ → Gauge
 flat e d i m l r = record { extent = e; level = d; records = i; total = m; leaves = l; root = r }
-
--- What the flat gauge keeps, the one that it stands for keeps.
-pub kept-known : (g : Gauge) → Kept g → N.Kept (gaugeOf g)
-unfolding gaugeOf
-kept-known g h = record { extent = h .extent; total = h .total }
-
-pub known-kept : (g : Gauge) → N.Kept (gaugeOf g) → Kept g
-unfolding gaugeOf
-known-kept g h = record { extent = h .extent; total = h .total }
 
 -- a gauge of these numbers is one that the code holds
 pub kept-is : (e : Extent) (d i m l r : ℕ) → Small e → m ≤ 1000001 → Kept (flat e d i m l r)

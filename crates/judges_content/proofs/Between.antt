@@ -23,7 +23,7 @@ use Rattle.rules_judge.specs.declared.Said.the-variants.{Silent, No, Large, Val
 use Rattle.rules_judge.specs.Judging.{blamed, rowAt, isForeign, isNumberRow, saidBy, spoken, otherOf}
 use Rattle.rules_judge.specs.Parts.{isNumeric}
 use Rattle.rules_judge.proofs.Blaming.{blamed-none}
-use Rattle.rules_tables.proofs.Tabled.{text-held}
+use Rattle.rules_judge.proofs.Tabled.{text-held}
 use Rattle.judges_state.specs.declared.Judge.{Judge}
 use Rattle.judges_state.specs.Decoded.{leastIn, saidOf, judgeOf}
 use Rattle.judges_state.specs.Steps.{rareOf}
@@ -55,14 +55,6 @@ unfolding saidOf spoken
 run-first said m t asked n k e f g = g ∙ sym (rw (e, eq-eqb said 0 f))
 
 pub ruleset saids = (not-asked, said-before, run-first, needs)
-
-pub asked-none : (asked : Bool) (said : ℕ) → asked ≡ true → 1 ≡ cond asked 1 said
-asked-none asked said e = rw e
-
-pub asked-kept : (asked : Bool) (said : ℕ) → asked ≡ false → said ≡ cond asked 1 said
-asked-kept asked said e = rw e
-
-pub ruleset behinds = (asked-none, asked-kept, needs)
 
 -- ── the judge behind it ──
 

@@ -3,10 +3,9 @@ use mathlib.Core.Path.{_≡_, refl, sym, ap, _∙_}
 use mathlib.Core.List.{List, []}
 use mathlib.Core.Bool.{Bool, true, false, cond, not, _&&_, _||_}
 use Prim.Native.Nat.{ℕ, _≤_, _<_}
-use borrow.Author.Needs.{needs}
 use Rattle.cdi.specs.Words.{isEmpty, words-page}
 use Rattle.cdi.specs.Faults.{least}
-use Rattle.cdi.specs.Pieces.{Attribute, remark, refer, text, pieces-page}
+use Rattle.cdi.specs.Pieces.{Attribute, text, pieces-page}
 use Rattle.cdi.specs.Numbers.{number, numbers-page}
 use Rattle.cdi.specs.Rules.{attributeFaults}
 use Rattle.cdi.proofs.Quiet.{impossible}
@@ -17,21 +16,11 @@ use Rattle.rules_judge.specs.Tables.{entryAt, intSize}
 use Rattle.rules_judge.specs.Parts.{isNumeric}
 use Rattle.judges_state.specs.declared.Judge.{Judge}
 use Rattle.judges_state.specs.Decoded.{saidOf, judgeOf}
-use Rattle.judges_state.specs.Steps.{faultsOf, enteredBy, rareOf, leftBy, leafBy}
+use Rattle.judges_state.specs.Steps.{faultsOf, enteredBy, leftBy, leafBy}
 use Rattle.judges_state.proofs.Saying.{is-value}
 use Rattle.judges_model.proofs.Entered.{entered}
 use Rattle.judges_model.proofs.Left.{left}
 use Rattle.judges_model.proofs.Leaf.{leaf-run, leaf-empty}
-use Rattle.judges_model.proofs.Rare.{a-reference, a-remark}
-
--- ── another piece ──
-
-module _ (j r : Judge) (p : ℕ) {refers : Bool} (e : judgeOf r ≡ otherOf (judgeOf j) p (rareOf refers)) where
-  pub with-reference : (k : ℕ) → refers ≡ true → judgeOf r ≡ otherOf (judgeOf j) p (refer k)
-  with-reference k f = e ∙ ap (λ (t : Bool). otherOf (judgeOf j) p (rareOf t)) f ∙ a-reference (judgeOf j) p k
-
-  pub with-remark : refers ≡ false → judgeOf r ≡ otherOf (judgeOf j) p remark
-  with-remark f = e ∙ ap (λ (t : Bool). otherOf (judgeOf j) p (rareOf t)) f ∙ a-remark (judgeOf j) p
 
 -- ── a child ──
 
@@ -86,5 +75,3 @@ module _ (j r : Judge) (p : ℕ) (n : List ℕ) {child entry : ℕ} (ec : child 
           let z : false ≡ true = sym (ap isValue none) ∙ one in
           impossible (cc)
       by false f = rw (es, f) (leaf-empty (judgeOf j) p n ec ee h o f)
-
-pub ruleset judge-steps = (with-reference, with-remark, child-entered, child-left-where, child-left, leaf-with-run, leaf-with-nothing, needs)

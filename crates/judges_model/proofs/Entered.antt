@@ -22,7 +22,7 @@ use Rattle.rules_judge.specs.declared.Judge.{Judge}
 use Rattle.rules_judge.specs.Judging.{asFault, toLeast, blamed, rowAt, enterOf}
 use Rattle.rules_judge.specs.Tables.{entryAt}
 use Rattle.rules_judge.proofs.Blaming.{blamed-none, blamed-append}
-use Rattle.rules_tables.proofs.Tabled.{no-entry}
+use Rattle.rules_judge.proofs.Tabled.{no-entry}
 use Rattle.rules.proofs.Passing.{foreign-entered, unknown-entered, known-entered}
 use Rattle.judges_state.specs.Steps.{faultsOf, rowIn, tagFaults, turnOf, enteredBy}
 

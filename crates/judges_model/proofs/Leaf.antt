@@ -20,8 +20,8 @@ use Rattle.rules_judge.specs.Judging.{blamed, rowAt, isForeign, isNumberRow, sa
 use Rattle.rules_judge.specs.Tables.{entryAt, inTurn, manyAt}
 use Rattle.rules_judge.specs.Parts.{isNumeric, missingBy, numberBy, intBy, leftOf}
 use Rattle.rules_judge.proofs.Blaming.{blamed-none}
-use Rattle.rules_attributes.proofs.Numbering.{number-below}
-use Rattle.rules_tables.proofs.Tabled.{no-attributes, text-held}
+use Rattle.rules.proofs.Numbering.{number-below}
+use Rattle.rules_judge.proofs.Tabled.{no-attributes, text-held}
 use Rattle.judges_state.specs.Steps.{faultsOf, rowIn, tagFaults, turnOf, enteredBy, contentFaults, soundBy, leftBy, leafBy}
 use Rattle.judges_model.proofs.Entered.{entered}
 use Rattle.judges_model.proofs.Left.{left}

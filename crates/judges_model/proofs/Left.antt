@@ -16,7 +16,7 @@ use Rattle.rules_judge.specs.Judging.{blamed, leaveOf}
 use Rattle.rules_judge.specs.Tables.{entryAt, sizeIn, intSize}
 use Rattle.rules_judge.specs.Parts.{missingBy, numberBy, intBy, limitSound}
 use Rattle.rules_judge.proofs.Blaming.{blamed-append}
-use Rattle.rules_tables.proofs.Tabled.{no-entry}
+use Rattle.rules_judge.proofs.Tabled.{no-entry}
 use Rattle.rules.proofs.Passing.{foreign-left, unknown-left, known-left}
 use Rattle.judges_state.specs.Steps.{turnOf, sizeAt, contentFaults, soundBy, leftBy}
 

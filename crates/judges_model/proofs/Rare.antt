@@ -1,8 +1,8 @@
 -- A comment, an instruction or a reference: what it refers to doesn't count.
 use mathlib.Core.Path.{_≡_, refl}
-use mathlib.Core.Bool.{true, false}
+use mathlib.Core.Bool.{true}
 use Prim.Native.Nat.{ℕ}
-use Rattle.cdi.specs.Pieces.{remark, refer}
+use Rattle.cdi.specs.Pieces.{refer}
 use Rattle.cdi.specs.Rules.{strayFaults}
 use Rattle.rules_judge.specs.declared.Said.{Said}
 use Rattle.rules_judge.specs.declared.Said.the-variants.{Silent, No, Large, Value}
@@ -21,7 +21,3 @@ module _ (j : Judge) (p : ℕ) where
   pub a-reference : (k : ℕ) → otherOf j p (rareOf true) ≡ otherOf j p (refer k)
   unfolding otherOf rareOf strayFaults
   a-reference k = rw (same-word (j .said) k)
-
-  pub a-remark : otherOf j p (rareOf false) ≡ otherOf j p remark
-  unfolding rareOf
-  a-remark = refl

@@ -5,7 +5,7 @@ use Prim.Native.Nat.{ℕ, _-_, _<_, _≤_}
 use borrow.Author.Needs.{needs}
 use lib.ListN.{getD}
 use Rattle.rules_judge.specs.Tables.{entryAt, manyAt}
-use Rattle.rules_tables.proofs.Tabled.{outer, inner, several, outer-right, outer-end, inner-right, inner-begin, no-entry, several-right, none-many}
+use Rattle.rules_judge.proofs.Tabled.{outer, inner, several, outer-right, outer-end, inner-right, inner-begin, no-entry, several-right, none-many}
 
 module _ (r c : ℕ) {v : ℕ} where
   pub outer-there : r < 6 → c < 19 → v ≡ getD (getD outer r []) c 0 → v ≡ entryAt r c

@@ -1,19 +1,16 @@
 -- The start tag at a place, by where its name ends, its end, and whether a name stands twice in it.
 use mathlib.Core.Path.{_≡_, refl, ap, _∙_}
-use mathlib.Core.List.{List, [], _∷_}
+use mathlib.Core.List.{List}
 use mathlib.Core.Bool.{Bool, true, false, cond}
 use mathlib.Core.Option.{Option, none, some}
 use Prim.Native.Nat.{ℕ, _+_, _≤_, _<_}
 use native.Mathlib.Omega.{arith}
 use borrow.Author.Tests.{eq-eqb, ne-eqb}
 use lib.ListN.{length, drop}
-use lib.Seq.{drop-drop}
-use Rattle.cdi.specs.Words.{_>>=_, begins}
-use Rattle.cdi.specs.Pieces.{Piece, start, blank, attributes, tagEnd, twice, startTag, orMalformed}
+use Rattle.cdi.specs.Words.{_>>=_}
+use Rattle.cdi.specs.Pieces.{Piece, start, attributes, tagEnd, twice, startTag, orMalformed}
 use Rattle.cdi.specs.Markup.{refers}
-use Rattle.scan.specs.Spans.{Span}
-use Rattle.scan.proofs.Spans.{span-rest}
-use Rattle.pieces_cuts.specs.Places.{part, Name, closing, Closes}
+use Rattle.pieces_cuts.specs.Places.{part, Name}
 use Rattle.pieces_cuts.specs.Cuts.{Stands}
 use Rattle.marks_cuts.specs.Marks.{sortAt, startCut, badCut}
 use Rattle.marks_cuts.proofs.Sorts.{start-sort}
@@ -53,21 +50,3 @@ module _ (s : List ℕ) (at : ℕ) {n : ℕ} (p : sortAt (drop at s) ≡ 0) (v :
     tagged {e} {k} d f l h =
         let m : n ≤ e = omega arith in
         start-stands s at n e m h k (v .low) (start-sort s at refl p ∙ rw (behind-name, f, d))
-
--- the end of a tag, by the byte behind its last attribute and the blanks there
-module _ {s : List ℕ} {n l t : ℕ} {a : Bool} (c : Closes s n l) (b : Span blank s l t) (w : a ≡ begins (62 ∷ []) (drop t s)) where
-  ending : tagEnd 0 (drop n s) ≡ closing (drop t s)
-  ending = c .is ∙ ap closing (span-rest b)
-
-  pub long-end : a ≡ true → tagEnd 0 (drop n s) ≡ some (false, drop (t + 1) s)
-  unfolding closing
-  long-end f = ending ∙ rw (← w, f, drop-drop)
-
-  module _ {d : Bool} (f : a ≡ false) (u : d ≡ begins (47 ∷ 62 ∷ []) (drop t s)) where
-    pub short-end : d ≡ true → tagEnd 0 (drop n s) ≡ some (true, drop (t + 2) s)
-    unfolding closing
-    short-end g = ending ∙ rw (← w, f, ← u, g, drop-drop)
-
-    pub no-end : d ≡ false → tagEnd 0 (drop n s) ≡ none
-    unfolding closing
-    no-end g = ending ∙ rw (← w, f, ← u, g)

@@ -5,20 +5,12 @@ use mathlib.Core.Bool.{Bool, true, false, cond}
 use mathlib.Core.Logic.{_⊎_, inl, inr, ⊎-elim}
 use Prim.Native.Nat.{ℕ, _+_, _-_, _<_}
 use native.Mathlib.Omega.{arith}
-use lib.ListN.{length}
 use Rattle.cdi.specs.Words.{same}
 use Rattle.scan.proofs.Tests.{eq-or-ne}
 use Rattle.pieces_cuts.specs.Places.{part}
 use Rattle.pieces_cuts.specs.Cuts.{Stands}
 use Rattle.marks_cuts.specs.Marks.{finishCut, badCut}
-use Rattle.marks_ends.specs.Ends.{Finishes, Closes}
-
-module _ {s : List ℕ} {at n e : ℕ} (v : Finishes s at n e) where
-  pub finish-bad : e ≡ 0 → Stands s at (badCut s at)
-  finish-bad z = v .bad z
-
-  pub finish-tag : (e ≡ 0 → ⊥) → Stands s at (finishCut at n e)
-  finish-tag z = v .tag z
+use Rattle.marks_ends.specs.Ends.{Closes}
 
 module _ {s : List ℕ} {from to at k n e : ℕ} (v : Closes s from to at k n e) where
   -- a number that isn't 4 tells whether the names are the same
@@ -42,9 +34,6 @@ module _ {s : List ℕ} {from to at k n e : ℕ} (v : Closes s from to at k n e)
 
     pub own-ahead : at < e
     own-ahead = own-tag .cut .low
-
-    pub own-less : length s - e < length s - at
-    own-less = omega (arith, own-tag .cut .low, own-tag .cut .high)
 
   module _ (z : k ≡ 6) where
     pub other-tag : Stands s at (finishCut at n e)

@@ -4,7 +4,6 @@ use mathlib.Core.List.{List}
 use mathlib.Core.Bool.{true}
 use Prim.Native.Nat.{ℕ, _+_, _-_, _≤_, _<_}
 use native.Mathlib.Omega.{arith}
-use lib.ListN.{length}
 use Rattle.cdi.specs.Words.{same}
 use Rattle.pieces_cuts.specs.Places.{part}
 use Rattle.marks_ends.proofs.Closing.{same-self}
@@ -22,6 +21,3 @@ module _ {s : List ℕ} {at n to e : ℕ} (v : Leaves s at n to e) (z : e ≡ 0 
 
   pub leaf-ahead : at < e
   leaf-ahead = omega (arith, leaf-plain .low, leaf-plain .start .cut .low, leaf-plain .finish .cut .low)
-
-  pub leaf-less : length s - e < length s - at
-  leaf-less = omega (arith, leaf-ahead, leaf-plain .finish .cut .high)

@@ -1,29 +1,19 @@
 -- Numbers compared, and what a comparison says of the number that was read, however large that is.
-use mathlib.Core.Path.{_≡_, refl, sym, ap, _∙_}
-use mathlib.Core.List.{List}
-use mathlib.Core.Bool.{Bool, true, false, cond, _&&_}
-use mathlib.Core.Option.{Option, none, some}
+use mathlib.Core.Path.{_≡_, refl, sym, _∙_}
+use mathlib.Core.Bool.{Bool, true, false, cond}
 use mathlib.Core.Logic.{⊎-elim}
-use Prim.Native.Nat.{ℕ, zero, suc, _-_, _^_, _≤_, _<_}
+use Prim.Native.Nat.{ℕ, zero, suc, _-_, _^_, _≤_}
 use native.Mathlib.Omega.{arith}
 use borrow.Author.Needs.{needs}
-use borrow.Author.Tests.{lt-ltb, le-ltb, le-leb, lt-leb, eqb-true, eqb-false, ne-eqb}
+use borrow.Author.Tests.{le-leb, lt-leb, eqb-true, eqb-false, ne-eqb}
 use lib.Dec.{eqb, leb}
-use lib.IntN.{ℤ, pos, negsuc, negℤ}
+use lib.IntN.{pos, negℤ}
 use lib.Signed.{leZ}
 use mir.Syntax.{w64}
 use mir.Val.{Fits}
-use Rattle.cdi.specs.Faults.{fault, least, unless, lesser}
-use Rattle.cdi.specs.Numbers.{number, within, bounded}
-use Rattle.cdi.specs.Rules.{rangeFaults}
-use Rattle.cdi.proofs.Signs.{up, down, le-up}
 use Rattle.scan.proofs.Tests.{lt-or-le}
-use Rattle.numbers.specs.Held.{held, signedOf, numberOf, sizeOf, withSign, nearest, lowOf, highOf, Judges, faultOf}
+use Rattle.numbers.specs.Held.{sizeOf, withSign, nearest}
 use Rattle.numbers.specs.declared.Signed.{Signed}
-use Rattle.numbers.specs.declared.Number.{Number}
-use Rattle.numbers.specs.declared.Number.the-variants as number
-use Rattle.numbers.specs.declared.Range.{Range}
-use Rattle.numbers.specs.declared.Refusal.the-variants.{Is, Nothing}
 
 -- ── magnitudes ──
 
@@ -130,128 +120,3 @@ module _ (a b : Signed) where
   wholly-above e f g h = above-below (sizeOf a) (sizeOf b) e f (eqb-false _ _ (sym g ∙ h))
 
 pub ruleset order = (both-below, both-above, second-below, first-below, wholly-above, needs)
-
--- ── ranges ──
-
--- one law over the bounds: a number that is too large for 64 bits lies outside of every range that 64 bits hold
-fails : (y z : ℤ) → (leZ y z ≡ true → ⊥) → leZ y z ≡ false
-fails y z h = by (leZ y z) h
-  where
-    by : (t : Bool) → (t ≡ true → ⊥) → t ≡ false
-    by true k = absurd (k refl)
-    by false k = refl
-
-and-none : (t : Bool) → (t && false) ≡ false
-and-none true = refl
-and-none false = refl
-
-abbrev pub InReach : ℤ → ℤ → Type 0
-InReach lo hi = (leZ (negℤ (pos (2 ^ 64 - 1))) lo ≡ true) × (leZ hi (pos (2 ^ 64 - 1)) ≡ true)
-
-module _ (lo hi : ℤ) (h : InReach lo hi) where
-  too-high : (n : ℕ) → 2 ^ 64 ≤ n → within lo hi (pos n) ≡ false
-  unfolding within
-  too-high n k = ap (λ t. leZ lo (pos n) && t) (fails (pos n) hi (λ e. not-high e)) ∙ and-none (leZ lo (pos n))
-    where
-      not-high : leZ (pos n) hi ≡ true → ⊥
-      not-high e = unfold up down in omega (arith, le-up (pos n) hi e, le-up hi (pos (2 ^ 64 - 1)) (h .1))
-
-  too-low : (n : ℕ) → 2 ^ 64 ≤ suc n → within lo hi (negsuc n) ≡ false
-  unfolding within
-  too-low n k = ap (λ t. t && leZ (negsuc n) hi) (fails lo (negsuc n) (λ e. not-low e))
-    where
-      not-low : leZ lo (negsuc n) ≡ true → ⊥
-      not-low e = unfold up down in omega (arith, le-up lo (negsuc n) e, le-up (negℤ (pos (2 ^ 64 - 1))) lo (h .0))
-
-  pub read-within : (z : ℤ) → within lo hi (nearest (signedOf z)) ≡ within lo hi z
-  unfolding nearest signedOf held sizeOf withSign
-  read-within (pos n) = ⊎-elim (λ k. rw (lt-ltb n (2 ^ 64) k)) (λ k. rw (le-ltb n (2 ^ 64) k) (too-high (2 ^ 64) (omega arith) ∙ sym (too-high n k))) (lt-or-le n (2 ^ 64))
-  read-within (negsuc n) = ⊎-elim (λ k. rw (lt-ltb (suc n) (2 ^ 64) k)) (λ k. rw (le-ltb (suc n) (2 ^ 64) k) (too-low (2 ^ 64 - 1) (omega arith) ∙ sym (too-low n k))) (lt-or-le (suc n) (2 ^ 64))
-
--- the bounds of a range of 64 bits
-in-reach : (range : Range) → Fits w64 (range .low) → Fits w64 (range .high) → InReach (lowOf range) (highOf range)
-unfolding lowOf highOf withSign
-in-reach range l h = (by (range .negative), le-leb (range .high) (2 ^ 64 - 1) (omega (arith, h .fits)))
-  where
-    below : (n : ℕ) → n < 2 ^ 64 → leZ (negℤ (pos (2 ^ 64 - 1))) (negℤ (pos n)) ≡ true
-    below zero k = refl
-    below (suc n) k = le-leb n (2 ^ 64 - 2) (omega arith)
-
-    by : (t : Bool) → leZ (negℤ (pos (2 ^ 64 - 1))) (cond t (negℤ (pos (range .low))) (pos (range .low))) ≡ true
-    by true = below (range .low) (l .fits)
-    by false = refl
-
-module _ {t : Bool} (lo hi z : ℤ) (e : t ≡ leZ lo z) where
-  below-low : t ≡ false → false ≡ within lo hi z
-  unfolding within
-  below-low f = rw (← e, f)
-
-  from-low : {u : Bool} → t ≡ true → u ≡ leZ z hi → u ≡ within lo hi z
-  unfolding within
-  from-low f g = g ∙ rw (← e, f)
-
-module _ (n : Signed) (range : Range) (low : Signed) {t : Bool} (l : nearest low ≡ withSign (range .negative) (range .low)) (e : t ≡ leZ (nearest low) (nearest n)) where
-  from : t ≡ leZ (lowOf range) (nearest n)
-  unfolding lowOf
-  from = e ∙ ap (λ (z : ℤ). leZ z (nearest n)) l
-
-  pub too-small : t ≡ false → false ≡ within (lowOf range) (highOf range) (nearest n)
-  too-small f = below-low (lowOf range) (highOf range) (nearest n) from f
-
-  pub large-enough : (high : Signed) {u : Bool} → t ≡ true → nearest high ≡ withSign false (range .high) → u ≡ leZ (nearest n) (nearest high)
-      → u ≡ within (lowOf range) (highOf range) (nearest n)
-  large-enough high f h g = from-low (lowOf range) (highOf range) (nearest n) from f (g ∙ ap (λ (z : ℤ). leZ (nearest n) z) (h ∙ high-is))
-    where
-      high-is : withSign false (range .high) ≡ highOf range
-      high-is = unfold withSign highOf in refl
-
-pub judged : (n : Signed) (range : Range) {r : Bool} → Fits w64 (range .low) → Fits w64 (range .high) → r ≡ within (lowOf range) (highOf range) (nearest n)
-    → Judges n (within (lowOf range) (highOf range)) r
-judged n range l h e = record { of = λ z f. e ∙ ap (λ m. within (lowOf range) (highOf range) (nearest m)) f ∙ read-within (lowOf range) (highOf range) (in-reach range l h) z }
-
-pub ruleset ranges = (too-small, large-enough, judged, needs)
-
--- "numbers from -2^63 to 2^64 - 1"
-abbrev pub widest : Range
-widest = record { negative = true; low = 2 ^ 63; high = 2 ^ 64 - 1 }
-
-pub is-bounded : (n : Signed) {r : Bool} → r ≡ within (lowOf widest) (highOf widest) (nearest n) → r ≡ bounded (nearest n)
-unfolding bounded lowOf highOf withSign
-is-bounded n e = e
-
-pub judges-bounded : (n : Signed) {r : Bool} → Judges n (within (lowOf widest) (highOf widest)) r → Judges n bounded r
-unfolding bounded lowOf highOf withSign
-judges-bounded n v = record { of = v .of }
-
-pub ruleset bounds = (is-bounded, judges-bounded, needs)
-
--- ── what is refused ──
-
-module _ (place : ℕ) (test : ℤ → Bool) where
-  no-number : (o : Option ℤ) → number.Not ≡ numberOf o → faultOf (Is 9 place) ≡ least (rangeFaults place test o)
-  unfolding numberOf faultOf rangeFaults least lesser
-  no-number none e = refl
-  no-number (some z) e = cc
-
-  with-number : (o : Option ℤ) {n : Signed} → number.Is n ≡ numberOf o → {t : Bool} → Judges n test t → least (rangeFaults place test o) ≡ least (unless t (fault 10 place))
-  unfolding numberOf rangeFaults
-  with-number none e v = cc
-  with-number (some z) {n} e v = rw (v .of z is)
-    where
-      is : n ≡ signedOf z
-      is = cc
-
-module _ (place : ℕ) (test : ℤ → Bool) (value : List ℕ) {q : Number} (e : q ≡ numberOf (number value)) where
-  pub not-a-number : q ≡ number.Not → faultOf (Is 9 place) ≡ least (rangeFaults place test (number value))
-  not-a-number f = no-number place test (number value) (sym f ∙ e)
-
-  module _ {n : Signed} {t : Bool} (f : q ≡ number.Is n) (v : Judges n test t) where
-    pub inside : t ≡ true → faultOf Nothing ≡ least (rangeFaults place test (number value))
-    unfolding faultOf least unless
-    inside g = rw (with-number place test (number value) (sym f ∙ e) v, g)
-
-    pub outside : t ≡ false → faultOf (Is 10 place) ≡ least (rangeFaults place test (number value))
-    unfolding faultOf least lesser unless
-    outside g = rw (with-number place test (number value) (sym f ∙ e) v, g)
-
-pub ruleset refusals = (not-a-number, inside, outside, needs)

@@ -5,13 +5,10 @@ use mathlib.Core.Option.{Option, none, some}
 use Prim.Native.Nat.{ℕ, suc, _+_, _*_, _-_, _^_}
 use lib.Dec.{eqb, ltb}
 use lib.IntN.{ℤ, pos, negsuc, negℤ}
-use Rattle.cdi.specs.Faults.{Fault, fault}
 use Rattle.numbers.specs.declared.Signed.{Signed}
 use Rattle.numbers.specs.declared.Number.{Number}
 use Rattle.numbers.specs.declared.Number.the-variants as number
 use Rattle.numbers.specs.declared.Range.{Range}
-use Rattle.numbers.specs.declared.Refusal.{Refusal}
-use Rattle.numbers.specs.declared.Refusal.the-variants as refusal
 
 -- a sign and a magnitude, which is large where 64 bits don't hold it
 unfoldable pub held : Bool → ℕ → Signed
@@ -62,7 +59,3 @@ highOf r = pos (r .high)
 -- what an answer about a number that was read says of the number itself
 pub record Judges (n : Signed) (test : ℤ → Bool) (r : Bool) : Type 0 where
   pub of : (z : ℤ) → n ≡ signedOf z → r ≡ test z
-
-unfoldable pub faultOf : Refusal → Option Fault
-faultOf (refusal.Is n p) = some (fault n p)
-faultOf refusal.Nothing = none

@@ -1,5 +1,5 @@
-// Numbers: an optional minus and one or more decimal digits, nothing else. They are read from any bytes, compared, tested against a range
-// and refused with 9 or 10; the pattern of `formatting` stands beside them.
+// Numbers: an optional minus and one or more decimal digits, nothing else. They are read from any bytes and compared; the pattern of
+// `formatting` stands beside them.
 
 ghost use mathlib.Core.Path.{_≡_};
 ghost use Prim.Native.Nat.{_-_, _≤_};
@@ -7,10 +7,9 @@ ghost use lib.Dec.{eqb, leb};
 ghost use lib.Signed.{leZ};
 ghost use Rattle.cdi.specs.Words.{ascii, same as sameBytes, after};
 ghost use Rattle.cdi.specs.Pieces.{digit};
-ghost use Rattle.cdi.specs.Numbers.{number, digits as digitsIn, within, bounded};
-ghost use Rattle.cdi.specs.Faults.{least};
-ghost use Rattle.cdi.specs.Rules.{isFormatting, rangeFaults};
-ghost use Rattle.numbers.specs.Held.{held, withSign, oneMore, digitsOf, numberOf, minusOf, sizeOf, nearest, lowOf, highOf, Judges, faultOf};
+ghost use Rattle.cdi.specs.Numbers.{number, digits as digitsIn};
+ghost use Rattle.cdi.specs.Rules.{isFormatting};
+ghost use Rattle.numbers.specs.Held.{held, withSign, oneMore, digitsOf, numberOf, minusOf, sizeOf, nearest};
 ghost use Rattle.numbers.specs.Formatting.{isFraction};
 
 // A number: its sign and its magnitude. A magnitude that needs more than 64 bits is large, and 0 stands in its place.
@@ -30,12 +29,6 @@ pub struct Range {
     pub negative: bool,
     pub low: u64,
     pub high: u64,
-}
-
-// A refusal's number and place.
-pub enum Refusal {
-    Is(u8, usize),
-    Nothing,
 }
 
 // The largest magnitude of 64 bits.
@@ -169,47 +162,6 @@ pub fn is_at_most(a: Signed, b: Signed) -> bool
         return false;
     }
     is_no_larger(a, b)
-}
-
-// Does the number lie in the range?
-pub fn is_within(n: Signed, range: Range) -> bool
-    ensures { λ r. ⌜ r ≡ within (lowOf range) (highOf range) (nearest n) ⌝ }
-    ensures read { λ r. ⌜ Judges n (within (lowOf range) (highOf range)) r ⌝ }
-{
-    let low = range.low;
-    let high = range.high;
-    if is_at_most(with_sign(range.negative, low), n) {
-        return is_at_most(n, with_sign(false, high));
-    }
-    false
-}
-
-// Does the number lie from -2^63 to 2^64 - 1?
-pub fn is_bounded(n: Signed) -> bool
-    ensures { λ r. ⌜ r ≡ bounded (nearest n) ⌝ }
-    ensures read { λ r. ⌜ Judges n bounded r ⌝ }
-{
-    is_within(
-        n,
-        Range {
-            negative: true,
-            low: 0x8000_0000_0000_0000,
-            high: MOST,
-        },
-    )
-}
-
-// What is wrong with a value that must be a number of the range, in the element at that place: 9, 10 or nothing.
-pub fn range_fault(value: &[u8], place: usize, range: Range) -> Refusal
-    ensures { λ r. ⌜ faultOf r ≡ least (rangeFaults place (within (lowOf range) (highOf range)) (number (now (value .entry)))) ⌝ }
-{
-    let Number::Is(n) = read_number(value) else {
-        return Refusal::Is(9, place);
-    };
-    if is_within(n, range) {
-        return Refusal::Nothing;
-    }
-    Refusal::Is(10, place)
 }
 
 // Are these any digits or none, and then `f`?

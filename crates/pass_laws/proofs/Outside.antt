@@ -1,18 +1,17 @@
 -- The whole text: what stands around the root, the end, and what is answered.
-use mathlib.Core.Path.{_≡_, refl, sym, ap, _∙_}
+use mathlib.Core.Path.{_≡_, refl, ap, _∙_}
 use mathlib.Core.List.{List, [], _∷_}
 use mathlib.Core.Bool.{Bool, true, false, cond, _&&_}
 use mathlib.Core.Option.{some}
 use Prim.Native.Nat.{ℕ, suc, _+_, _-_, _≤_, _<_}
 use native.Mathlib.Omega.{arith}
-use borrow.Author.Needs.{needs}
 use borrow.Author.Tests.{lt-ltb, ltb-true, ltb-false}
 use lib.IntN.{ℤ}
 use lib.Dec.{ltb}
 use lib.ListN.{length, drop, drop-of-length-le, length-drop}
 use lib.Seq.{length-take-le}
 use Rattle.cdi.specs.Words.{all, while, isEmpty}
-use Rattle.cdi.specs.Faults.{fault, unless, lesser, least, accepted}
+use Rattle.cdi.specs.Faults.{fault, unless, lesser, least}
 use Rattle.cdi.specs.Pieces.{Piece, text, blank, pieces}
 use Rattle.cdi.specs.Markup.{reading, outside, innermost, pieceFaults, markupFaults}
 use Rattle.cdi.specs.Tree.{levels, top, tree}
@@ -30,7 +29,7 @@ use Rattle.pass_laws.specs.Passing.{Passed, Fails}
 use Rattle.pass_sums.specs.declared.State.{State}
 use Rattle.pass_steps.specs.declared.Step.the-variants.{Pass}
 use Rattle.pass_steps.specs.declared.Around.{Around}
-use Rattle.pass_steps.specs.declared.Around.the-variants.{Root, Skip, Stray}
+use Rattle.pass_steps.specs.declared.Around.the-variants.{Skip, Stray}
 use Rattle.pass_laws.proofs.Steps.{halts, farther, fails-later, passed-by}
 
 -- ── blank text ──
@@ -140,10 +139,6 @@ module _ {s : List ℕ} {at : ℕ} {st₀ : State} {t₀ : List ℤ} {i b : ℕ}
   over : markupFaults (length s) (reading [] 0) (from s at) ≡ unless (ltb 0 b) (fault 6 (length s))
   unfolding pieces markupFaults outside isEmpty
   over = v .faults [] refl ∙ rw (drop-of-length-le s h)
-
-  pub no-root : b ≡ 0 → Fails s 24 at 0 6 (length s)
-  unfolding unless least lesser
-  no-root e = record { first = λ ms k. rw (open-none ms k, over, e) }
 
   pub clean : (b ≡ 0 → ⊥) → markupFaults (length s) (reading [] 0) (from s at) ≡ []
   unfolding unless

@@ -1,11 +1,10 @@
 -- The steps of reading an element and of reading content, one law for each way through the code.
 use mathlib.Core.Path.{_≡_, refl, sym, ap, _∙_}
 use mathlib.Core.List.{List, [], _∷_, tail}
-use mathlib.Core.Bool.{Bool, true, false, cond}
+use mathlib.Core.Bool.{true, false, cond}
 use mathlib.Core.Option.{some}
 use Prim.Native.Nat.{ℕ, _+_, _-_, _≤_, _<_}
 use native.Mathlib.Omega.{arith}
-use borrow.Author.Needs.{needs}
 use lib.IntN.{ℤ}
 use lib.ListN.{length, drop-of-length-le}
 use Rattle.cdi.specs.Words.{same}
@@ -14,7 +13,6 @@ use Rattle.cdi.specs.Pieces.{Attribute, Piece, start, finish, pieces}
 use Rattle.cdi.specs.Markup.{Reading, reading, outside, refers, innermost, pieceFaults, next, markupFaults}
 use Rattle.cdi.specs.Tree.{Nodes, end, element, other, top, levels, tree}
 use Rattle.cdi.proofs.Quiet.{impossible}
-use Rattle.scan.proofs.Tests.{via}
 use Rattle.pieces_cuts.specs.Places.{part}
 use Rattle.pieces_cuts.specs.Cuts.{pieceOf, refersOf, Stands}
 use Rattle.pieces_cuts.specs.declared.Kind.{Kind}
@@ -26,8 +24,7 @@ use Rattle.levels.specs.Ahead.{from, nameIn, attributesIn, here}
 use Rattle.pass_steps.specs.Asks.{stepOf, beginFault}
 use Rattle.pass_laws.specs.Passing.{Passed, Fails}
 use Rattle.pass_sums.specs.declared.State.{State}
-use Rattle.pass_steps.specs.declared.Step.{Step}
-use Rattle.pass_steps.specs.declared.Step.the-variants.{Child, Close, Pass, Stop}
+use Rattle.pass_steps.specs.declared.Step.the-variants.{Pass, Stop}
 use Rattle.levels.proofs.Levels.{remark-levels, refer-levels, text-levels, short-levels, finish-levels, start-levels}
 use Rattle.pass_laws.proofs.Firsts.{first-fault, no-fault}
 use Rattle.pass_steps.proofs.Starts.{inside, start-clean, start-refused}

@@ -1,14 +1,10 @@
 -- What a piece of the third sort asks for.
-use mathlib.Core.Path.{_≡_, refl, sym, ap, _∙_}
+use mathlib.Core.Path.{_≡_, refl}
 use mathlib.Core.List.{List}
-use mathlib.Core.Bool.{Bool, true, false}
-use Prim.Native.Nat.{ℕ, _-_, _≤_, _<_}
+use mathlib.Core.Bool.{Bool}
+use Prim.Native.Nat.{ℕ, _-_}
 use native.Mathlib.Omega.{arith}
-use borrow.Author.Needs.{needs}
-use lib.ListN.{length, drop}
-use Rattle.cdi.specs.Pieces.{Piece, remark, refer}
-use Rattle.cdi.proofs.Quiet.{impossible}
-use Rattle.pieces_cuts.specs.Cuts.{pieceOf, Stands}
+use lib.ListN.{drop}
 use Rattle.pieces_cuts.specs.declared.Kind.{Kind}
 use Rattle.pieces_cuts.specs.declared.Kind.the-variants.{Start, Finish, Remark, Refer, Text, Malformed, Unsupported}
 use Rattle.pieces_cuts.specs.declared.Cut.{Cut}
@@ -16,13 +12,7 @@ use Rattle.marks_cuts.specs.Marks.{sortAt}
 use Rattle.marks_cuts.proofs.Others.{other-start, other-finish, other-text}
 use Rattle.pass_steps.specs.Asks.{stepOf}
 use Rattle.pass_steps.specs.declared.Step.the-variants.{Pass, Stop}
-use Rattle.pass_marks.specs.Rare.{rareFault, isRefer, Rares}
-
--- a cut, by its kind
-pub as-cut : (s : List ℕ) (at : ℕ) (c : Cut) {n : ℕ} {r : Bool} → Stands s at c → n ≡ rareFault (c .kind) → r ≡ isRefer (c .kind) → Rares s at n (c .end) r
-as-cut s at c u e f = record { cut = c; stands = u; number = e; end = refl; refer = f }
-
-pub ruleset rarely = (as-cut, needs)
+use Rattle.pass_marks.specs.Rare.{rareFault, Rares}
 
 module _ {s : List ℕ} {at n e : ℕ} {r : Bool} (v : Rares s at n e r) (h : sortAt (drop at s) ≡ 3) where
   abbrev c : Cut
@@ -55,9 +45,3 @@ module _ {s : List ℕ} {at n e : ℕ} {r : Bool} (v : Rares s at n e r) (h : so
       by Text q e = absurd (other-text h (v .stands) q)
       by Malformed q e = absurd (omega (arith, z, e))
       by Unsupported q e = absurd (omega (arith, z, e))
-
-  pub rare-ahead : at < e
-  rare-ahead = omega (arith, v .end, v .stands .cut .low)
-
-  pub rare-less : length s - e < length s - at
-  rare-less = omega (arith, v .end, v .stands .cut .low, v .stands .cut .high)

@@ -1,16 +1,10 @@
-// What a piece asks for, inside the root and outside it, and what a start tag and an end tag must keep: no state is needed.
+// What a start tag must keep, and what may stand outside the root: no state is needed. Definitions speak of what a piece asks for by the two enums.
 
-use pieces_cuts::Cut;
-use pieces_cuts::Kind;
-use scan::same;
 ghost use mathlib.Core.Path.{_≡_};
 ghost use mathlib.Core.Bool.{cond, not, _&&_};
 ghost use lib.Dec.{eqb, ltb};
 ghost use Prim.Native.Nat.{_+_, _≤_};
-ghost use lib.ListN.{length};
-ghost use Rattle.cdi.specs.Words.{same as sameBytes};
-ghost use Rattle.levels.specs.Ahead.{nameIn};
-ghost use Rattle.pass_steps.specs.Asks.{stepOf, aroundOf, beginFault};
+ghost use Rattle.pass_steps.specs.Asks.{beginFault};
 
 // What a piece inside the root asks for: an element begins, an element ends, the piece is passed, or it is refused.
 pub enum Step {
@@ -25,20 +19,6 @@ pub enum Around {
     Root,
     Skip,
     Stray { number: usize, place: usize },
-}
-
-pub fn step_of(kind: Kind) -> Step
-    ensures { λ r. ⌜ r ≡ stepOf kind ⌝ }
-{
-    match kind {
-        Kind::Start => Step::Child,
-        Kind::Finish => Step::Close,
-        Kind::Remark => Step::Pass,
-        Kind::Refer => Step::Pass,
-        Kind::Text => Step::Pass,
-        Kind::Malformed => Step::Stop { number: 4 },
-        Kind::Unsupported => Step::Stop { number: 5 },
-    }
 }
 
 // The number of a start tag's own fault, or 0. Where all 24 levels are left, nothing is open.
@@ -62,53 +42,6 @@ pub fn begin(refers: bool, left: usize, begun: usize) -> usize
         return 0;
     }
     7
-}
-
-// Has the end tag the start tag's name?
-pub fn is_closed(s: &[u8], tag: Cut, close: Cut) -> bool
-    requires { ⌜ (tag .name ≤ tag .behind) × (tag .behind ≤ length (now s)) × (close .name ≤ close .behind) × (close .behind ≤ length (now s)) ⌝ }
-    ensures { λ r. ⌜ r ≡ sameBytes (nameIn (now (s .entry)) tag) (nameIn (now (s .entry)) close) ⌝ }
-{
-    let from = tag.name;
-    let to = tag.behind;
-    let first = close.name;
-    let last = close.behind;
-    same(&s[from..to], &s[first..last])
-}
-
-// Outside the root only remarks and blank text may stand.
-pub fn around_root(kind: Kind, at: usize, solid: usize, stop: usize) -> Around
-    ensures { λ r. ⌜ r ≡ aroundOf kind at solid stop ⌝ }
-{
-    match kind {
-        Kind::Start => Around::Root,
-        Kind::Remark => Around::Skip,
-        Kind::Text => {
-            if solid < stop {
-                return Around::Stray {
-                    number: 6,
-                    place: solid,
-                };
-            }
-            Around::Skip
-        }
-        Kind::Finish => Around::Stray {
-            number: 6,
-            place: at,
-        },
-        Kind::Refer => Around::Stray {
-            number: 6,
-            place: at,
-        },
-        Kind::Malformed => Around::Stray {
-            number: 4,
-            place: at,
-        },
-        Kind::Unsupported => Around::Stray {
-            number: 5,
-            place: at,
-        },
-    }
 }
 
 // Does text stand outside the root?

@@ -1,3 +1,2 @@
-pub mod Summing
 pub mod Splitting
 pub mod Shorter

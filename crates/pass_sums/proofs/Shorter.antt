@@ -1,15 +1,15 @@
 -- A shorter table: the fold of a tree gives the same state, and the front of the same table.
-use mathlib.Core.Path.{_≡_, refl, sym, ap, _∙_}
-use mathlib.Core.List.{List, [], _∷_, _++_}
+use mathlib.Core.Path.{_≡_, refl, ap, _∙_}
+use mathlib.Core.List.{List, [], _∷_}
 use mathlib.Core.Bool.{Bool, true, false, cond}
-use Prim.Native.Nat.{ℕ, zero, suc, _*_, _≤_}
+use Prim.Native.Nat.{ℕ, zero, suc, _*_}
 use lib.IntN.{ℤ}
-use lib.ListN.{length, take, set}
-use lib.Seq.{sets, take-take, take-append-seam}
+use lib.ListN.{take, set}
+use lib.Seq.{sets}
 use Rattle.cdi.specs.Pieces.{Attribute}
 use Rattle.cdi.specs.Tree.{Nodes, end, element, other}
 use Rattle.gauge_tag.specs.Gauging as G
-use Rattle.pass_sums.specs.Sums.{recordsOf, enterOf, otherOf, leaveOf, writtenOf}
+use Rattle.pass_sums.specs.Sums.{enterOf, otherOf, leaveOf, writtenOf}
 use Rattle.pass_sums.specs.Folding.{Folded, folded, foldNodes}
 use Rattle.pass_sums.specs.declared.State.{State}
 
@@ -55,32 +55,3 @@ fold-front n st t (element p w s kids following) =
     ap (λ (f : Folded). foldNodes (leaveOf st p w s (f .state)) (writtenOf st p w s (f .state) (f .table)) following) (fold-front n (enterOf st p w s) t kids)
     ∙ ap (λ (x : List ℤ). foldNodes (leaveOf st p w s (i .state)) x following) (written-front n st p w s (i .state) (i .table))
     ∙ fold-front n (leaveOf st p w s (i .state)) (writtenOf st p w s (i .state) (i .table)) following
-
--- ── for the planner ──
-
-module _ (n : ℕ) (st : State) (t : List ℤ) (u : Nodes) where
-  -- The state is that of the whole table.
-  pub state-front : foldNodes st (take n t) u .state ≡ foldNodes st t u .state
-  state-front = ap (λ (f : Folded). f .state) (fold-front n st t u)
-
-  pub table-front : foldNodes st (take n t) u .table ≡ take n (foldNodes st t u .table)
-  table-front = ap (λ (f : Folded). f .table) (fold-front n st t u)
-
-  -- Where the front has room for all records, they are those of the whole table.
-  pub records-front : 8 * recordsOf (foldNodes st t u .state) ≤ n
-      → take (8 * recordsOf (foldNodes st t u .state)) (foldNodes st (take n t) u .table) ≡ take (8 * recordsOf (foldNodes st t u .state)) (foldNodes st t u .table)
-  records-front h = ap (take (8 * recordsOf (foldNodes st t u .state))) table-front ∙ take-take (8 * recordsOf (foldNodes st t u .state)) n (foldNodes st t u .table) h
-
--- The same of a table that is lengthened.
-module _ (st : State) (t more : List ℤ) (u : Nodes) where
-  as-front : foldNodes st t u ≡ foldNodes st (take (length t) (t ++ more)) u
-  as-front = ap (λ (x : List ℤ). foldNodes st x u) (sym (take-append-seam t more))
-
-  pub state-longer : foldNodes st t u .state ≡ foldNodes st (t ++ more) u .state
-  state-longer = ap (λ (f : Folded). f .state) as-front ∙ state-front (length t) st (t ++ more) u
-
-  pub rows-longer : (k : ℕ) → k ≤ length t → take k (foldNodes st t u .table) ≡ take k (foldNodes st (t ++ more) u .table)
-  rows-longer k h =
-      ap (λ (f : Folded). take k (f .table)) as-front
-      ∙ ap (take k) (table-front (length t) st (t ++ more) u)
-      ∙ take-take k (length t) (foldNodes st (t ++ more) u .table) h

@@ -2,23 +2,18 @@
 -- is proved for any such definitions and never looks into them.
 use mathlib.Core.List.{List}
 use mathlib.Core.Bool.{false, cond}
-use Prim.Native.Nat.{ℕ, _≤_}
+use Prim.Native.Nat.{ℕ}
 use lib.Dec.{eqb}
 use lib.IntN.{ℤ}
 use Rattle.cdi.specs.Pieces.{Attribute, Piece}
 use Rattle.rules_judge.specs.Judging as J
 use Rattle.rules_judge.specs.declared.Least.the-variants.{Nothing}
 use Rattle.gauge_tag.specs.Gauging as G
-use Rattle.gauge_tag.specs.Numbered.{Kept}
 use Rattle.pass_sums.specs.declared.State.{State}
 
 -- how many records a state counts: one at most for each element that was begun
 unfoldable pub recordsOf : State → ℕ
 recordsOf st = st .gauge .records
-
--- what holds of every state that is met
-unfoldable pub Fit : State → Type 0
-Fit st = Kept (st .gauge) × (st .gauge .records ≤ 4096)
 
 -- the state before the text
 unfoldable pub atFirst : State
@@ -43,5 +38,5 @@ unfoldable pub writtenOf : State → ℕ → List ℕ → List Attribute → Sta
 writtenOf outer p n s inner t = G.written (outer .gauge) p n s (inner .gauge) t
 
 unfoldable pub sums-page : Unit {0}
-unfolding recordsOf Fit atFirst enterOf otherOf leaveOf writtenOf
+unfolding recordsOf atFirst enterOf otherOf leaveOf writtenOf
 sums-page = tt

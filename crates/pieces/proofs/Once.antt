@@ -1,7 +1,7 @@
 -- One answer: any two results that a contract allows are the same. That a name has one end is shown in `pieces_cuts`.
 use mathlib.Core.Path.{_≡_, refl, sym, ap, _∙_}
 use mathlib.Core.List.{List}
-use mathlib.Core.Bool.{Bool, true, false}
+use mathlib.Core.Bool.{Bool}
 use mathlib.Core.Option.{none, some}
 use mathlib.Core.Logic.{⊎-elim}
 use Prim.Native.Nat.{ℕ, _+_, _≤_}
@@ -12,14 +12,13 @@ use Rattle.cdi.specs.Words.{any}
 use Rattle.cdi.specs.Pieces.{Piece, start, finish, remark, refer, text, malformed, unsupported, lower, attributes, bears, twice}
 use Rattle.cdi.specs.Markup.{refers}
 use Rattle.scan.proofs.Tests.{eq-or-ne}
-use Rattle.pieces_cuts.specs.Places.{part, attributeOf, attributeFrom, Next, valueFrom, Valued}
+use Rattle.pieces_cuts.specs.Places.{part, attributeOf, attributeFrom, Next}
 use Rattle.pieces_characters.specs.Characters.{clip, valueIn, Encoded}
 use Rattle.pieces_cuts.specs.Cuts.{pieceOf, before, Cuts, Stands}
 use Rattle.pieces_cuts.specs.declared.Kind.{Kind}
 use Rattle.pieces_cuts.specs.declared.Kind.the-variants.{Start, Finish, Remark, Refer, Text, Malformed, Unsupported}
 use Rattle.pieces_cuts.specs.declared.Cut.{Cut}
 use Rattle.pieces_cuts.specs.declared.places.Attribute.{Attribute as Places}
-use Rattle.pieces_cuts.specs.declared.places.Value.{Value}
 use Rattle.pieces_characters.specs.declared.Encoding.{Encoding}
 use Rattle.pieces_cuts.proofs.Once.{same-rest, apart, both}
 use Rattle.pieces_marks.proofs.Reading.{part-length}
@@ -108,33 +107,6 @@ next-attribute-once {s} {at} {r} {q} v w = ⊎-elim
         let behind : r .behind ≡ q .behind = part-end s (r .name) (q .name) (r .behind) (q .behind) name (o .behind) (p .behind) (omega (arith, o .value, o .close, o .end, o .high)) (omega (arith, p .value, p .close, p .end, p .high)) names in
         let value : r .value ≡ q .value = part-start s (r .value) (q .value) (r .close) (q .close) close (o .close) (p .close) (omega (arith, o .end, o .high)) (omega (arith, p .end, p .high)) values in
         places-path r q name behind value close end
-
-abbrev aValue : Bool → ℕ → ℕ → Value
-aValue f a b = record { found = f; from = a; to = b }
-
-module _ {s : List ℕ} {at : ℕ} {n : List ℕ} {r : Value} (v : Valued s at n r) where
-  value-none : r .found ≡ false → valueFrom n 0 (drop at s) ≡ none
-  value-none e = v .place ∙ rw e
-
-  value-some : r .found ≡ true → valueFrom n 0 (drop at s) ≡ some (part s (r .from) (r .to), drop (r .to + 1) s)
-  value-some e = v .place ∙ rw e
-
-pub value-of-once : {s : List ℕ} {at : ℕ} {n : List ℕ} {r q : Value} → Valued s at n r → Valued s at n q → r ≡ q
-value-of-once {s} {at} {n} {r} {q} v w = by (r .found) refl (q .found) refl
-  where
-    by : (a : Bool) → r .found ≡ a → (b : Bool) → q .found ≡ b → r ≡ q
-    by false e false f =
-        ap (λ x. aValue x (r .from) (r .to)) (e ∙ sym f)
-        ∙ ap (λ x. aValue (q .found) x (r .to)) (v .nothing e .0 ∙ sym (w .nothing f .0))
-        ∙ ap (aValue (q .found) (q .from)) (v .nothing e .1 ∙ sym (w .nothing f .1))
-    by false e true f = apart (value-none v e) (value-some w f)
-    by true e false f = apart (value-none w f) (value-some v e)
-    by true e true f =
-        let same = both (value-some v e) (value-some w f) in
-        let behind : r .to + 1 ≡ q .to + 1 = same-rest s (r .to + 1) (q .to + 1) (omega (arith, v .quote e)) (omega (arith, w .quote f)) (ap (λ x. x .1) same) in
-        let to : r .to ≡ q .to = omega arith in
-        let from : r .from ≡ q .from = part-start s (r .from) (q .from) (r .to) (q .to) to (v .low) (w .low) (v .high) (w .high) (ap (λ x. length (x .0)) same) in
-        ap (λ x. aValue x (r .from) (r .to)) (e ∙ sym f) ∙ ap (λ x. aValue (q .found) x (r .to)) from ∙ ap (aValue (q .found) (q .from)) to
 
 -- ── pieces ──
 

@@ -11,8 +11,4 @@ shows-nothing P = record { is = λ e. impossible (cc) }
 pub shows-equal : {a r : Bool} → a ≡ r → Shows a (r ≡ true)
 shows-equal e = record { is = λ t. sym e ∙ t }
 
--- the answer that is shown
-pub shown : {x y r : Bool} → Shows r (x ≡ y) → r ≡ true → y ≡ x
-shown w t = sym (w .is t)
-
 pub ruleset showing = (shows-nothing, shows-equal, needs)

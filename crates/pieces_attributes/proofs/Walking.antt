@@ -1,7 +1,7 @@
 -- The attributes of a tag, one after another: one step, shared by every loop over them.
 use mathlib.Core.Path.{_≡_, refl, sym, ap, _∙_}
 use mathlib.Core.List.{List, [], _∷_}
-use mathlib.Core.Bool.{Bool, true, false, cond, not}
+use mathlib.Core.Bool.{Bool, true, false, cond}
 use mathlib.Core.Option.{Option, none, some}
 use mathlib.Core.Logic.{⊎-elim}
 use Prim.Native.Nat.{ℕ, zero, suc, _+_, _-_, _≤_, _<_}
@@ -14,11 +14,9 @@ use lib.Seq.{drop-drop}
 use Rattle.cdi.specs.Words.{ascii, _>>=_, given, any, after, same, begins, between}
 use Rattle.cdi.specs.Pieces.{Attribute, blank, nameStart, nameAt, attributeAt, attributes, tagEnd, bears, twice}
 use Rattle.cdi.specs.Markup.{refers}
-use Rattle.cdi.specs.Rules.{valueOf}
 use Rattle.scan.proofs.Along.{drop-next}
 use Rattle.scan.proofs.Tests.{lt-or-le, eq-or-ne}
-use Rattle.pieces_cuts.specs.Places.{part, attributeOf, attributeFrom, Next, valueFrom, Valued, closing, Closes}
-use Rattle.pieces_attributes.specs.Answers.{Shows}
+use Rattle.pieces_cuts.specs.Places.{part, attributeOf, attributeFrom, Next, closing, Closes}
 use Rattle.pieces_cuts.specs.declared.places.Attribute.{Attribute as Places}
 
 -- the bytes that are still to pass end at a place
@@ -38,16 +36,6 @@ unfolding tagEnd
 tag-skip zero s = refl
 tag-skip (suc k) [] = refl
 tag-skip (suc k) (x ∷ s) = tag-skip k s
-
-value-skip : (n : List ℕ) (k : ℕ) (s : List ℕ) → valueFrom n k s ≡ valueFrom n 0 (drop k s)
-unfolding valueFrom
-value-skip n zero s = refl
-value-skip n (suc k) [] = refl
-value-skip n (suc k) (x ∷ s) = value-skip n k s
-
--- true is not false
-unlike : {A : Type 0} → true ≡ false → A
-unlike e = let z : _≡_ {A = ℕ} 0 1 = cc in absurd (omega arith)
 
 -- ── one step ──
 
@@ -93,10 +81,6 @@ module _ (s : List ℕ) (i : ℕ) (h : i < length s) where
   unfolding tagEnd attributeFrom
   tag-step = rw (drop-next s i h) (rw (bind-cond (blank (getD s i 0)) (attributeAt (after blank (getD s i 0 ∷ drop (i + 1) s))) (λ a. tagEnd (length (drop (i + 1) s) - length (a .1)) (drop (i + 1) s))))
 
-  value-step : (n : List ℕ) → valueFrom n 0 (drop i s) ≡ given (attributeFrom (drop i s)) none (λ a. cond (same n (a .0 .name)) (some (a .0 .value, a .1)) (valueFrom n (length (drop (i + 1) s) - length (a .1)) (drop (i + 1) s)))
-  unfolding valueFrom
-  value-step n = rw (drop-next s i h)
-
 module _ {s : List ℕ} {i : ℕ} {a : Places} (v : Next s i a) where
   module _ (e : a .end ≡ i) where
     none-from : attributeFrom (drop i s) ≡ none
@@ -109,10 +93,6 @@ module _ {s : List ℕ} {i : ℕ} {a : Places} (v : Next s i a) where
     tag-none : tagEnd 0 (drop i s) ≡ closing (after blank (drop i s))
     unfolding closing tagEnd after begins
     tag-none = ⊎-elim (λ h. tag-step s i h ∙ rw none-from) (λ h. rw (drop-of-length-le s h)) (lt-or-le i (length s))
-
-    value-none : (n : List ℕ) → valueFrom n 0 (drop i s) ≡ none
-    unfolding valueFrom
-    value-none n = ⊎-elim (λ h. value-step s i h n ∙ rw none-from) (λ h. rw (drop-of-length-le s h)) (lt-or-le i (length s))
 
   module _ (e : a .end ≡ i → ⊥) where
     some-from : attributeFrom (drop i s) ≡ some (attributeOf s a, drop (a .end) s)
@@ -134,9 +114,6 @@ module _ {s : List ℕ} {i : ℕ} {a : Places} (v : Next s i a) where
     tag-more =
         let t = behind-blanks (drop i s) some-from in
         tag-step s i there ∙ rw (no-word 62 [] (after blank (drop i s)) right-mark t, no-word 47 (62 ∷ []) (after blank (drop i s)) slash t, some-from, tag-skip, skipped)
-
-    value-more : (n : List ℕ) → valueFrom n 0 (drop i s) ≡ cond (same n (part s (a .name) (a .behind))) (some (part s (a .value) (a .close), drop (a .end) s)) (valueFrom n 0 (drop (a .end) s))
-    value-more n = value-step s i there n ∙ rw (some-from, value-skip, skipped)
 
     pub less : length s - a .end < length s - i
     less = omega (arith, ahead, v .ordered .high)
@@ -211,49 +188,6 @@ module _ {s : List ℕ} {at i : ℕ} {a : Places} (w : Walking refers s at i) (v
 
 pub ruleset referring = (walk, no-reference, a-reference, not-in-this, less, needs)
 
--- the value of a named one
-pub record Valuing (n s : List ℕ) (at i : ℕ) : Type 0 where
-  pub left : valueOf n (attributes 0 (drop at s)) ≡ valueOf n (attributes 0 (drop i s))
-  pub place : valueFrom n 0 (drop at s) ≡ valueFrom n 0 (drop i s)
-  pub high : i ≤ length s
-
-pub value-walk : (n s : List ℕ) (at : ℕ) → at ≤ length s → Valuing n s at at
-value-walk n s at h = record { left = refl; place = refl; high = h }
-
-module _ {n s : List ℕ} {at i : ℕ} {a : Places} (w : Valuing n s at i) (v : Next s i a) where
-  pub valueless : a .end ≡ i → Valued s at n (record { found = false; from = 0; to = 0 })
-  unfolding valueOf
-  valueless e = record {
-    is = w .left ∙ rw (no-more v e);
-    place = w .place ∙ value-none v e n;
-    nothing = λ z. (refl, refl);
-    quote = λ z. unlike (sym z);
-    low = omega arith;
-    high = omega arith;
-  }
-
-  module _ {r : Bool} (e : a .end ≡ i → ⊥) (k : r ≡ same n (part s (a .name) (a .behind))) where
-    pub valued : r ≡ true → Valued s at n (record { found = true; from = a .value; to = a .close })
-    unfolding valueOf
-    valued x = record {
-      is = w .left ∙ rw (one-more v e, ← k, x);
-      place = w .place ∙ value-more v e n ∙ rw (← k, x, v .last e);
-      nothing = λ z. unlike z;
-      quote = λ z. omega (arith, v .last e, v .ordered .high);
-      low = v .ordered .close;
-      high = omega (arith, v .ordered .end, v .ordered .high);
-    }
-
-    pub not-this : r ≡ false → Valuing n s at (a .end)
-    unfolding valueOf
-    not-this x = record {
-      left = w .left ∙ rw (one-more v e, ← k, x);
-      place = w .place ∙ value-more v e n ∙ rw (← k, x);
-      high = v .ordered .high;
-    }
-
-pub ruleset valuing = (value-walk, valueless, valued, not-this, less, needs)
-
 -- the end of the tag
 pub record Closing (s : List ℕ) (at i : ℕ) : Type 0 where
   pub left : tagEnd 0 (drop at s) ≡ tagEnd 0 (drop i s)
@@ -271,16 +205,3 @@ module _ {s : List ℕ} {at i : ℕ} {a : Places} (w : Closing s at i) (v : Next
   another e = record { left = w .left ∙ tag-more v e; low = omega (arith, w .low, ahead v e); high = v .ordered .high }
 
 pub ruleset close-loop = (close-walk, last-one, another, less, needs)
-
--- ── a tag without attributes ──
-
-module _ (s : List ℕ) (at : ℕ) {b : ℕ} {r : Bool} (e : b ≡ getD s at 0) (f : r ≡ blank b) where
-  pub blank-there : r ≡ true → false ≡ not (blank (getD s at 0))
-  blank-there g = rw (← e, ← f, g)
-
-  pub no-blank : r ≡ false → true ≡ not (blank (getD s at 0))
-  no-blank g = rw (← e, ← f, g)
-
-  pub bare : r ≡ false → Shows true (attributes 0 (drop at s) ≡ [])
-  unfolding attributes
-  bare g = record { is = λ t. ⊎-elim (λ h. rw (drop-next s at h, ← e, ← f, g)) (λ h. rw (drop-of-length-le s h)) (lt-or-le at (length s)) }

@@ -2,24 +2,18 @@
 
 use pieces_cuts::names::name_end;
 use pieces_cuts::places::Attribute;
-use pieces_cuts::places::Value;
 use scan::begins_at;
-use scan::byte_at;
 use scan::holds;
-use scan::is_blank;
 use scan::same;
 use scan_runs::blank_end;
 use scan_runs::value_rest;
 ghost use mathlib.Core.Path.{_≡_};
-ghost use mathlib.Core.Bool.{not};
-ghost use mathlib.Core.List.{[]};
 ghost use Prim.Native.Nat.{_≤_};
-ghost use lib.ListN.{length, drop, getD};
+ghost use lib.ListN.{length, drop};
 ghost use Rattle.cdi.specs.Words.{any};
-ghost use Rattle.cdi.specs.Pieces.{blank, isQuote, attributes, bears};
+ghost use Rattle.cdi.specs.Pieces.{isQuote, attributes, bears};
 ghost use Rattle.cdi.specs.Markup.{refers};
-ghost use Rattle.pieces_cuts.specs.Places.{Quoted, Here, Next, Valued};
-ghost use Rattle.pieces_attributes.specs.Answers.{Shows};
+ghost use Rattle.pieces_cuts.specs.Places.{Quoted, Here, Next};
 
 // Does a value stand in this quote?
 fn is_quote(b: u8) -> bool
@@ -109,18 +103,6 @@ pub fn next_attribute(s: &[u8], at: usize) -> Attribute
     a
 }
 
-// Does no blank stand at this place, which is behind a tag's name? Then the tag has no attributes.
-pub fn is_plainly_bare(s: &[u8], at: usize) -> bool
-    ensures is { λ r. ⌜ r ≡ not (blank (getD (now (s .entry)) at 0)) ⌝ }
-    ensures bare { λ r. ⌜ Shows r (attributes 0 (drop at (now (s .entry))) ≡ []) ⌝ }
-{
-    let b = byte_at(s, at);
-    if is_blank(b) {
-        return false;
-    }
-    true
-}
-
 // Has one of the attributes from this place on that name?
 pub fn is_named(s: &[u8], at: usize, name: &[u8]) -> bool
     requires { ⌜ at ≤ length (now s) ⌝ }
@@ -158,35 +140,6 @@ pub fn has_reference(s: &[u8], at: usize) -> bool
         let close = a.close;
         if holds(&s[value..close], b'&') {
             return true;
-        }
-        i = end;
-    }
-}
-
-// The value of the attribute of that name among those from this place on.
-pub fn value_of(s: &[u8], at: usize, name: &[u8]) -> Value
-    requires { ⌜ at ≤ length (now s) ⌝ }
-    ensures { λ r. ⌜ Valued (now (s .entry)) at (now (name .entry)) r ⌝ }
-{
-    let mut i = at;
-    loop {
-        let a = next_attribute(s, i);
-        let end = a.end;
-        if end == i {
-            return Value {
-                found: false,
-                from: 0,
-                to: 0,
-            };
-        }
-        let from = a.name;
-        let behind = a.behind;
-        if same(name, &s[from..behind]) {
-            return Value {
-                found: true,
-                from: a.value,
-                to: a.close,
-            };
         }
         i = end;
     }

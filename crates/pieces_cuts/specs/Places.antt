@@ -1,17 +1,15 @@
 -- What the places mean that the readers of names, words and attributes answer.
 use mathlib.Core.Path.{_≡_}
-use mathlib.Core.List.{List, [], _∷_}
+use mathlib.Core.List.{List, []}
 use mathlib.Core.Bool.{Bool, true, false, cond}
 use mathlib.Core.Option.{Option, none, some}
-use Prim.Native.Nat.{ℕ, zero, suc, _+_, _-_, _≤_, _<_}
+use Prim.Native.Nat.{ℕ, _+_, _-_, _≤_}
 use lib.ListN.{length, take, drop, getD}
 use lib.Dec.{eqb, ltb}
-use Rattle.cdi.specs.Words.{ascii, given, after, same, begins, beyond}
+use Rattle.cdi.specs.Words.{ascii, after, begins, beyond}
 use Rattle.cdi.specs.Pieces.{Attribute, blank, nameAt, quoted, attributeAt, attributes, tagEnd}
-use Rattle.cdi.specs.Rules.{valueOf}
 use Rattle.scan.specs.Spans.{spanEnd}
 use Rattle.pieces_cuts.specs.declared.places.Attribute.{Attribute as Places}
-use Rattle.pieces_cuts.specs.declared.places.Value.{Value}
 
 -- the part from place a to before e
 abbrev pub part : List ℕ → ℕ → ℕ → List ℕ
@@ -66,24 +64,6 @@ pub record Next (s : List ℕ) (at : ℕ) (r : Places) : Type 0 where
   pub first : (r .end ≡ at → ⊥) → r .name ≡ spanEnd blank s at
   pub last : (r .end ≡ at → ⊥) → r .close + 1 ≡ r .end
 
--- the value of the first attribute of that name, and what follows its quote; `k` bytes are still to pass
-unfoldable pub valueFrom : List ℕ → ℕ → List ℕ → Option (List ℕ × List ℕ)
-valueFrom n k [] = none
-valueFrom n (suc k) (x ∷ s) = valueFrom n k s
-valueFrom n zero (x ∷ s) =
-    given (attributeFrom (x ∷ s)) none (λ a.
-    let r = valueFrom n (length s - length (a .1)) s in
-    cond (same n (a .0 .name)) (some (a .0 .value, a .1)) r)
-
--- the value of the attribute of that name stands in these places
-pub record Valued (s : List ℕ) (at : ℕ) (n : List ℕ) (r : Value) : Type 0 where
-  pub is : valueOf n (attributes 0 (drop at s)) ≡ cond (r .found) (some (part s (r .from) (r .to))) none
-  pub place : valueFrom n 0 (drop at s) ≡ cond (r .found) (some (part s (r .from) (r .to), drop (r .to + 1) s)) none
-  pub nothing : r .found ≡ false → (r .from ≡ 0) × (r .to ≡ 0)
-  pub quote : r .found ≡ true → r .to < length s
-  pub low : r .from ≤ r .to
-  pub high : r .to ≤ length s
-
 -- a tag's end, where no attribute stands before it
 unfoldable pub closing : List ℕ → Option (Bool × List ℕ)
 closing t = cond (begins (ascii ">") t) (some (false, drop 1 t)) (cond (begins (ascii "/>") t) (some (true, drop 2 t)) none)
@@ -96,5 +76,5 @@ pub record Closes (s : List ℕ) (at r : ℕ) : Type 0 where
   pub high : r ≤ length s
 
 unfoldable pub places-page : Unit {0}
-unfolding attributeFrom valueFrom closing
+unfolding attributeFrom closing
 places-page = tt

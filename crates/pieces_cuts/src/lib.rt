@@ -2,7 +2,7 @@
 
 pub mod cuts; // cuts without name and text
 pub mod names; // where a name ends
-pub mod places; // where an attribute and a value stand
+pub mod places; // where an attribute stands
 
 // What a piece is; a remark is a comment or an instruction.
 pub enum Kind {

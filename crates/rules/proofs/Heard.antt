@@ -19,7 +19,7 @@ use Rattle.rules_judge.specs.declared.Said.{Said}
 use Rattle.rules_judge.specs.declared.Said.the-variants.{Silent, No, Large, Value}
 use Rattle.names.specs.Names.{elementNumber}
 use Rattle.rules_judge.specs.Judging.{rowAt, isForeign, asWhole, saidBy, saidFaults, isValue, spoken, isNumberRow, fresh, enterOf, otherOf, numberBlame, passed, leaveOf, judgeNodes}
-use Rattle.rules_attributes.proofs.Named.{Numbered}
+use Rattle.rules.proofs.Named.{Numbered}
 use Rattle.rules.proofs.Steps.{Reads, reads-other, reads-leave, cond-holds, given-holds}
 
 -- what is heard of a content, after what was heard before

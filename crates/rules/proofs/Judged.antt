@@ -17,7 +17,7 @@ use Rattle.rules_judge.specs.declared.Least.the-variants.{Nothing}
 use Rattle.names.specs.Names.{elementNumber}
 use Rattle.rules_judge.specs.Judging.{asFault, blamed, rowAt, isForeign, fresh, entryFaults, enterOf, otherOf, missing, numberBlame, intBlame, passed, leaveOf, judgeNodes}
 use Rattle.rules_judge.proofs.Blamed.{blamed-least}
-use Rattle.rules_attributes.proofs.Named.{Numbered, numbered, counted}
+use Rattle.rules.proofs.Named.{Numbered, numbered, counted}
 use Rattle.rules.proofs.Ordered.{Like, like-nothing, child-alike}
 use Rattle.rules.proofs.Steps.{Reads, reads-other, reads-leave, not-foreign, looked-up, enter-known, like-other, like-leave}
 use Rattle.rules.proofs.Heard.{number-blamed}

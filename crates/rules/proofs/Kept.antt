@@ -18,7 +18,7 @@ use Rattle.rules_judge.specs.declared.Bound.{Bound}
 use Rattle.rules_judge.specs.declared.Said.the-variants.{Silent}
 use Rattle.names.specs.Names.{elementNumber}
 use Rattle.rules_judge.specs.Judging.{rowAt, isForeign, isValue, entryFaults, enterOf, otherOf, bounding, boundSound, passed, leaveOf, judgeNodes, judging-page}
-use Rattle.rules_attributes.proofs.Named.{numbered, counted}
+use Rattle.rules.proofs.Named.{numbered, counted}
 use Rattle.rules.proofs.Ordered.{Like, child-alike}
 use Rattle.rules.proofs.Steps.{Reads, reads-other, reads-leave, cond-holds, not-foreign, looked-up, enter-known, like-other, like-leave}
 use Rattle.rules.proofs.Heard.{heard, heard-means, fresh-said}

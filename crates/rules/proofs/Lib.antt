@@ -1,4 +1,6 @@
 -- The laws of the judge.
+pub mod Named
+pub mod Numbering
 pub mod Ordered
 pub mod Steps
 pub mod Heard
@@ -7,4 +9,3 @@ pub mod Kept
 pub mod Bounding
 pub mod Judged
 pub mod Passing
-pub mod Once

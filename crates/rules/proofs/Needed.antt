@@ -16,7 +16,7 @@ use Rattle.rules_judge.specs.declared.Judge.{Judge}
 use Rattle.rules_judge.specs.declared.Least.{Least}
 use Rattle.names.specs.Names.{elementNumber}
 use Rattle.rules_judge.specs.Judging.{rowAt, isForeign, fresh, enterOf, otherOf, missing, passed, leaveOf, judgeNodes, judging-page}
-use Rattle.rules_attributes.proofs.Named.{Numbered}
+use Rattle.rules.proofs.Named.{Numbered}
 use Rattle.rules.proofs.Ordered.{lesser-same}
 use Rattle.rules.proofs.Steps.{Reads, reads-other, reads-leave, cond-holds, not-foreign, looked-up}
 

@@ -4,12 +4,10 @@ use mathlib.Core.List.{List, [], _∷_, _++_}
 use mathlib.Core.Bool.{Bool, true, false, cond, _&&_, _||_}
 use mathlib.Core.Option.{none, some}
 use mathlib.Core.Logic.{⊎-elim}
-use Prim.Native.Nat.{ℕ, _≤_}
+use Prim.Native.Nat.{ℕ}
 use native.Mathlib.Omega.{arith}
-use borrow.Author.Needs.{needs}
 use borrow.Author.Tests.{lt-ltb, le-ltb, eq-eqb, ne-eqb}
 use lib.Dec.{eqb, leb}
-use lib.ListN.{length}
 use Rattle.cdi.specs.Words.{isEmpty}
 use Rattle.cdi.specs.Faults.{fault, unless}
 use Rattle.cdi.specs.Pieces.{Attribute}
@@ -17,28 +15,15 @@ use Rattle.cdi.specs.Rows.{rowOf}
 use Rattle.cdi.specs.Rules.{entryOf, attributeFaults, sizeText, sizeOf}
 use Rattle.scan.proofs.Tests.{lt-or-le}
 use Rattle.names.specs.Names.{elementNumber}
-use Rattle.pieces_cuts.specs.Cuts.{pieceOf, Stands}
-use Rattle.pieces_cuts.specs.declared.Cut.{Cut}
 use Rattle.rules_judge.specs.declared.Least.{Least}
-use Rattle.rules_judge.specs.declared.Said.{Said}
 use Rattle.rules_judge.specs.declared.Judge.{Judge}
-use Rattle.rules_judge.specs.Judging.{blamed, rowAt, isForeign, isNumberRow, spoken, fresh, entryFaults, enterOf, otherOf, missing, numberBlame, boundBlame, intBlame, boundSound, passed, leaveOf}
+use Rattle.rules_judge.specs.Judging.{blamed, rowAt, isForeign, fresh, entryFaults, enterOf, missing, numberBlame, boundBlame, intBlame, boundSound, passed, leaveOf}
 use Rattle.rules_judge.specs.Tables.{entryAt, manyAt, inTurn, sizeIn, intSize}
-use Rattle.rules_judge.specs.Parts.{strayBy, isLimit, missingBy, numberBy, intBy, limitSound, leftOf}
+use Rattle.rules_judge.specs.Parts.{isLimit, missingBy, numberBy, intBy, limitSound, leftOf}
 use Rattle.rules_judge.proofs.Blaming.{blamed-in-turn}
-use Rattle.rules_attributes.proofs.Named.{numbered}
-use Rattle.rules_attributes.proofs.Numbering.{is-int, is-relation, is-min, is-max, is-numeric, entry-known, number-below}
-use Rattle.rules_tables.proofs.Sized.{int-size, size-is}
-use Rattle.rules_content.proofs.Spoken.{stray-piece}
-
--- ── a tag's places ──
-
-module _ {s : List ℕ} {at : ℕ} {c : Cut} (v : Stands s at c) where
-  pub name-low : c .name ≤ c .behind
-  name-low = v .cut .name-low
-
-  pub name-high : c .behind ≤ length s
-  name-high = omega (arith, v .cut .name-high, v .cut .high)
+use Rattle.rules.proofs.Named.{numbered}
+use Rattle.rules.proofs.Numbering.{is-int, is-relation, is-min, is-max, is-numeric, entry-known}
+use Rattle.rules_judge.proofs.Sized.{int-size, size-is}
 
 -- ── order and count ──
 
@@ -89,23 +74,6 @@ module _ (j : Judge) (p : ℕ) (n : List ℕ) (s : List Attribute) {r : Judge} w
         least-is : b ≡ blamed (j .least) (entryFaults (j .last) p (e, eqb e (manyAt (j .row))) ++ attributeFaults p (rowOf n) s)
         least-is = blamed-in-turn (j .least) (unless t (fault 8 p)) (attributeFaults p (rowAt c) s) ea eb ∙ rw (turn-faults, et, row-is)
 
-pub ruleset entering = (foreign-entered, unknown-entered, known-entered, number-below, name-low, name-high, needs)
-
--- ── any other piece ──
-
-module _ (j : Judge) {s : List ℕ} {at : ℕ} {c : Cut} (v : Stands s at c) where
-  pub foreign-other : j .row ≡ 24 → j ≡ otherOf j at (pieceOf (c .kind) s at c)
-  unfolding otherOf isForeign
-  foreign-other e = rw (eq-eqb _ _ e)
-
-  pub other-judged : {l : Least} {said : Said} → (j .row ≡ 24 → ⊥) → l ≡ blamed (j .least) (strayBy (c .kind) (rowAt (j .row) .text) at c)
-      → said ≡ cond (isNumberRow j) (spoken (j .said) (pieceOf (c .kind) s at c)) (j .said)
-      → record { least = l; row = j .row; numeric = j .numeric; last = j .last; one = j .one; two = j .two; said = said; low = j .low; high = j .high; sound = j .sound } ≡ otherOf j at (pieceOf (c .kind) s at c)
-  unfolding otherOf isForeign
-  other-judged e f g = rw (ne-eqb _ _ e, stray-piece (rowAt (j .row)) v, ← f, ← g)
-
-pub ruleset others = (foreign-other, other-judged, needs)
-
 -- ── leaving a child ──
 
 module _ (p : ℕ) (n : List ℕ) where
@@ -155,5 +123,3 @@ module _ (j : Judge) (p : ℕ) (n : List ℕ) (s : List Attribute) (i : Judge) {
       where
         least-is : l ≡ blamed (i .least) (missingBy p c (i .one) (i .two) ++ (numberBy p (j .numeric) c (i .said) ++ intBy p c (intSize s) i))
         least-is = blamed-in-turn (i .least) _ _ ea (blamed-in-turn _ _ _ eb el)
-
-pub ruleset leaving = (foreign-left, unknown-left, known-left, number-below, name-low, name-high, needs)

@@ -1,2 +1,5 @@
 pub mod Blamed
 pub mod Blaming
+pub mod Below
+pub mod Tabled
+pub mod Sized

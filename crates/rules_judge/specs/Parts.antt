@@ -1,47 +1,17 @@
 -- What the parts of the judge answer, by numbers of elements and kinds of pieces.
 use mathlib.Core.List.{List, []}
-use mathlib.Core.Bool.{Bool, true, false, cond, not, _&&_, _||_}
+use mathlib.Core.Bool.{Bool, cond, not, _&&_, _||_}
 use Prim.Native.Nat.{ℕ, max}
 use lib.Dec.{eqb, leb}
 use Rattle.cdi.specs.Words.{isEmpty}
 use Rattle.cdi.specs.Faults.{Fault, unless}
 use Rattle.cdi.specs.Pieces.{Attribute}
 use Rattle.cdi.specs.Rules.{offTable}
-use Rattle.pieces_cuts.specs.declared.Kind.{Kind}
-use Rattle.pieces_cuts.specs.declared.Kind.the-variants.{Start, Finish, Remark, Refer, Text, Malformed, Unsupported}
-use Rattle.pieces_cuts.specs.declared.Cut.{Cut}
 use Rattle.rules_judge.specs.declared.Least.{Least}
 use Rattle.rules_judge.specs.declared.Said.{Said}
-use Rattle.rules_judge.specs.declared.Said.the-variants.{Silent, No, Large, Value}
+use Rattle.rules_judge.specs.declared.Said.the-variants.{No}
 use Rattle.rules_judge.specs.declared.Judge.{Judge}
 use Rattle.rules_judge.specs.Judging.{saidFaults, isValue, boundBlame, bounding}
-
--- a run of text
-abbrev pub isRun : Kind → Bool
-isRun Start = false
-isRun Finish = false
-isRun Remark = false
-isRun Refer = false
-isRun Text = true
-isRun Malformed = false
-isRun Unsupported = false
-
--- nothing is said yet
-abbrev pub isSilent : Said → Bool
-isSilent Silent = true
-isSilent No = false
-isSilent Large = false
-isSilent (Value w) = false
-
--- what is stray where text is held or not
-abbrev pub strayBy : Kind → Bool → ℕ → Cut → List Fault
-strayBy Start t p c = []
-strayBy Finish t p c = []
-strayBy Remark t p c = []
-strayBy Refer t p c = unless t (offTable p)
-strayBy Text t p c = unless (t || eqb (c .solid) (c .end)) (offTable (c .solid))
-strayBy Malformed t p c = []
-strayBy Unsupported t p c = []
 
 -- the numbers of min, max, default and property
 unfoldable pub isNumeric : ℕ → Bool

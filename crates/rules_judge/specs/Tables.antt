@@ -103,10 +103,6 @@ formIn (a ∷ rules) = a .form
 unfoldable pub formOf : ℕ → Form
 formOf k = formIn (ruleOf k)
 
--- the fixed texts of the root's attributes
-unfoldable pub fixedText : ℕ → List ℕ
-fixedText k = cond (eqb k 1) (ascii "http://www.w3.org/2001/XMLSchema-instance") (ascii "http://openlcb.org/schema/cdi/1/3/cdi.xsd")
-
 -- an attribute of that number is one of three
 unfoldable pub isOneOf : ℕ → ℕ → ℕ → ℕ → Bool
 isOneOf a b c k = not (eqb k 0) && (eqb k a || (eqb k b || eqb k c))
@@ -125,5 +121,5 @@ unfoldable pub intSize : List Attribute → ℕ
 intSize s = sizeIn (sizeText s)
 
 unfoldable pub tables-page : Unit {0}
-unfolding entryAt manyFrom manyAt inTurn ruleLists ruleOf ruleNumbers ruleAt attributeOf isRequired firstName otherName attributeName formIn formOf fixedText isOneOf hasNumber sizeIn intSize
+unfolding entryAt manyFrom manyAt inTurn ruleLists ruleOf ruleNumbers ruleAt attributeOf isRequired firstName otherName attributeName formIn formOf isOneOf hasNumber sizeIn intSize
 tables-page = tt

@@ -1,6 +1,4 @@
-// What is known of an element while its content is read: the least fault so far, how far its row has come, what it has said as a number.
-
-pub mod faults; // the least fault
+// No code: what is known of an element while its content is read, as types, with the definitions and laws of the table of elements.
 
 // A fault's number and place.
 pub struct Fault {
@@ -35,7 +33,7 @@ pub struct Bound {
     pub value: Whole,
 }
 
-// What is known of an element while its content is read. `row` is the element's number, 0 for the text itself, FOREIGN for an element whose
+// What is known of an element while its content is read. `row` is the element's number, 0 for the text itself, 24 for an element whose
 // content isn't judged; `last` is the last entry of the row that a child has had, counted from 1.
 pub struct Judge {
     pub least: Least,
@@ -49,5 +47,3 @@ pub struct Judge {
     pub high: Bound,
     pub sound: bool,
 }
-
-pub const FOREIGN: u8 = 24;

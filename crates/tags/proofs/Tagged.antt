@@ -25,7 +25,7 @@ use Rattle.names.specs.Names.{attributeNumber}
 use Rattle.pieces_cuts.specs.Places.{closing, Closes}
 use Rattle.rules_judge.specs.Tables as T
 use Rattle.rules_judge.specs.Tables.{ruleAt, hasNumber, intSize, tables-page}
-use Rattle.rules_tables.proofs.Below.{all-below, below}
+use Rattle.rules_judge.proofs.Below.{all-below, below}
 use Rattle.gauge_tag.specs.Numbered.{numbersBy}
 use Rattle.tags_values.specs.Codes.{amountFor, numbered, codeIn, amountIn}
 use Rattle.tags_cells.specs.Cells.{hasOne, knownTwice, Celled, Fresh}

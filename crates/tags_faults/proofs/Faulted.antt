@@ -24,9 +24,9 @@ use Rattle.scan.proofs.Tests.{lt-or-le, eq-or-ne}
 use Rattle.names.specs.Names.{attributeNumber}
 use Rattle.rules_judge.specs.Judging.{rowAt}
 use Rattle.rules_judge.specs.Tables.{ruleNumbers, ruleOf, ruleAt, attributeOf, isRequired, isOneOf, hasNumber, attributeName, formOf, sizeIn, intSize, tables-page}
-use Rattle.rules_tables.proofs.Below.{all-below, below, Below, at-below}
-use Rattle.rules_tables.proofs.Sized.{int-size, float-size}
-use Rattle.rules_tables.proofs.Tabled.{row-rules}
+use Rattle.rules_judge.proofs.Below.{all-below, below, Below, at-below}
+use Rattle.rules_judge.proofs.Sized.{int-size, float-size}
+use Rattle.rules_judge.proofs.Tabled.{row-rules}
 use Rattle.tags_values.specs.Codes.{rangeCode, formCode, codeFaults, ruleFor, codeOf, numbered, codeIn, codes-page}
 use Rattle.tags_values.proofs.Formed.{form-codes, code-high}
 use Rattle.tags_values.proofs.Numbered.{by-number, numbered-named}

@@ -11,7 +11,7 @@ use lib.Dec.{eqb}
 use lib.ListN.{length, getD, List·getD-eq-default}
 use Rattle.scan.proofs.Tests.{lt-or-le, eq-or-ne}
 use Rattle.rules_judge.specs.Tables.{ruleNumbers, ruleAt, attributeOf, tables-page}
-use Rattle.rules_tables.proofs.Below.{all-below, below, Below, at-below}
+use Rattle.rules_judge.proofs.Below.{all-below, below, Below, at-below}
 use Rattle.tags_faults.specs.Told.{lesserOf, ruleBy, rulesBy, faultBy, told-page}
 
 -- ── which attributes an element knows ──

@@ -21,7 +21,7 @@ use Rattle.numbers.specs.declared.Signed.{Signed}
 use Rattle.numbers.specs.declared.Number.{Number}
 use Rattle.numbers.specs.declared.Number.the-variants.{Is, Not}
 use Rattle.rules_judge.specs.Tables.{formOf, tables-page}
-use Rattle.rules_tables.proofs.Below.{Below, at-below}
+use Rattle.rules_judge.proofs.Below.{Below, at-below}
 use Rattle.tags_values.specs.Codes.{rangeCode, formCode, rangeAmount, textual, lowAt, highAt, amountFor, ruleFor, codeOf, amountOf, codes-page}
 use Rattle.tags_values.proofs.Ranged.{sized}
 

@@ -16,7 +16,7 @@ use Rattle.scan.proofs.Tests.{eq-or-ne}
 use Rattle.names.specs.Names.{attributeNames, attributeNumber}
 use Rattle.names.proofs.Positions.{attribute-kth}
 use Rattle.rules_judge.specs.Tables.{attributeName, tables-page}
-use Rattle.rules_tables.proofs.Below.{Below, at-below}
+use Rattle.rules_judge.proofs.Below.{Below, at-below}
 use Rattle.tags_values.specs.Codes.{numbered}
 
 NameIs : ℕ → Type 0

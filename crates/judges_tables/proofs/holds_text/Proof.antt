@@ -1,4 +1,4 @@
-use Rattle.rules_tables.proofs.Tabled.{text-rows}
+use Rattle.rules_judge.proofs.Tabled.{text-rows}
 use Rattle.judges_tables.proofs.holds_text.Statement.{statement}
 use Rattle.judges_tables.proofs.holds_text.Tie as tie
 

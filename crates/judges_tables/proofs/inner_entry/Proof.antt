@@ -1,5 +1,5 @@
 use borrow.Author.Needs.{needs}
-use Rattle.rules_tables.proofs.Tabled.{inner}
+use Rattle.rules_judge.proofs.Tabled.{inner}
 use Rattle.judges_tables.proofs.Looking.{entries}
 use Rattle.judges_tables.proofs.inner_entry.Statement.{statement}
 use Rattle.judges_tables.proofs.inner_entry.Tie as tie

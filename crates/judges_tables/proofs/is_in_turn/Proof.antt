@@ -1,5 +1,5 @@
 use borrow.Author.Needs.{needs}
-use Rattle.rules_tables.proofs.Tabled.{turns}
+use Rattle.rules_judge.proofs.Tabled.{turns}
 use Rattle.judges_tables.proofs.is_in_turn.Statement.{statement}
 use Rattle.judges_tables.proofs.is_in_turn.Tie as tie
 

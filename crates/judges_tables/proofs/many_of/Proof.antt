@@ -1,5 +1,5 @@
 use borrow.Author.Needs.{needs}
-use Rattle.rules_tables.proofs.Tabled.{several}
+use Rattle.rules_judge.proofs.Tabled.{several}
 use Rattle.judges_tables.proofs.Looking.{entries}
 use Rattle.judges_tables.proofs.many_of.Statement.{statement}
 use Rattle.judges_tables.proofs.many_of.Tie as tie

@@ -1,5 +1,5 @@
 use borrow.Author.Needs.{needs}
-use Rattle.rules_tables.proofs.Tabled.{outer}
+use Rattle.rules_judge.proofs.Tabled.{outer}
 use Rattle.judges_tables.proofs.Looking.{entries}
 use Rattle.judges_tables.proofs.outer_entry.Statement.{statement}
 use Rattle.judges_tables.proofs.outer_entry.Tie as tie

@@ -1,3 +1,0 @@
-pub mod Below
-pub mod Tabled
-pub mod Sized
