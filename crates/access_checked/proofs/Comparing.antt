@@ -9,9 +9,8 @@ use borrow.Author.Needs.{needs}
 use borrow.Author.Tests.{le-leb, lt-leb}
 use lib.Dec.{leb}
 use lib.IntN.{ℤ}
-use lib.ListN.{length, take, drop, length-take}
+use lib.ListN.{length, take, drop}
 use lib.Seq.{take-all}
-use Rattle.cdi.specs.Words.{given}
 use Rattle.cdi.specs.Faults.{fault, Answer, accepted, refused, _andThen_}
 use Rattle.cdi.specs.Table.{sameTable, tableOf}
 use Rattle.cdi.specs.Planning.{Description, ending, characters, opening, markup, elements, addresses, counting, described}

@@ -279,14 +279,6 @@ pub ruleset looking = (look, looked, look-start, look-finish, look-remark, look-
 
 -- ── a child by its name ──
 
-pub to-low : {s : List ℕ} {at : ℕ} {c : Cut} → Stands s at c → c .name ≤ c .behind
-to-low v = v .cut .name-low
-
-pub to-high : {s : List ℕ} {at : ℕ} {c : Cut} → Stands s at c → c .behind ≤ length s
-to-high v = omega (arith, v .cut .name-high, v .cut .high)
-
-pub ruleset tag-names = (to-low, to-high, needs)
-
 -- what is asked by name is asked of the children from the first on
 named-first : (n : List ℕ) (u : Nodes) → childOf n u ≡ childOf n (firstChild u)
 unfolding childOf firstChild

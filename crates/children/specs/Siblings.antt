@@ -77,7 +77,3 @@ Inside s (From q) = (q ≤ length s) × (2 ≤ length (ahead s q))
 pub record Named (s : List ℕ) (at : ℕ) (n : List ℕ) (r : Part) : Type 0 where
   pub is : nodesIn s r ≡ childOf n (here s at)
   pub inside : Inside s r
-
-unfoldable pub siblings-page : Unit {0}
-unfolding turnOf firstChild partOf nodesIn Inside
-siblings-page = tt

@@ -132,7 +132,3 @@ gaugeNodes g t (element p n s kids following) =
 -- before the text
 unfoldable pub atStart : Gauge
 atStart = record { extent = nowhere; level = 0; records = 0; total = 0; leaves = Never }
-
-unfoldable pub gauging-page : Unit {0}
-unfolding asFault from-to numbersOf isGroup isSegment recorded levelIn enterOf ownExtent firstLeaving leaveOf changeOf kindOf recordOf written gaugeNodes atStart
-gauging-page = tt

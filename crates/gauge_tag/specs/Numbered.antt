@@ -133,7 +133,3 @@ recordBy g p e m i =
 
 unfoldable pub writtenBy : Gauge → ℕ → ℕ → Numbers → Gauge → List ℤ → List ℤ
 writtenBy g p e m i t = cond (recordedBy (g .level) e) (sets t (g .records * 8) (recordBy g p e m i)) t
-
-unfoldable pub numbered-page : Unit {0}
-unfolding sizeBy naturalIn offsetIn numbersBy segmentAt dataAt groupAt recordedBy levelBy enterBy ownBy leaveBy kindBy addressBy widthBy copiesBy toldBy recordBy writtenBy
-numbered-page = tt

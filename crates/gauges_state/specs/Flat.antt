@@ -20,7 +20,3 @@ gaugeOf g = record { extent = g .extent; level = g .level; records = g .records;
 pub record Kept (g : Gauge) : Type 0 where
   pub extent : Small (g .extent)
   pub total : g .total ≤ 1000001
-
-unfoldable pub flat-page : Unit {0}
-unfolding leavesOf gaugeOf
-flat-page = tt

@@ -97,7 +97,3 @@ leafBy j p child entry said =
       high = bounding (eqb child 20) (j .high) p said;
       sound = j .sound && (not (isLimit child) || isValue said);
     }
-
-unfoldable pub steps-page : Unit {0}
-unfolding faultsOf rowIn tagFaults turnOf enteredBy rareOf sizeAt contentFaults soundBy leftBy boundedBy leafBy
-steps-page = tt

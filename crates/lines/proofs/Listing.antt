@@ -1,14 +1,13 @@
 -- The lines of many variables.
-use mathlib.Core.Path.{_≡_, refl, sym, ap, _∙_}
+use mathlib.Core.Path.{_≡_, sym, ap, _∙_}
 use mathlib.Core.List.{List, [], _∷_}
-use Prim.Native.Nat.{ℕ, zero, suc, _+_, _-_, _*_, _≤_, _<_}
+use Prim.Native.Nat.{ℕ, suc, _+_, _-_, _*_, _≤_, _<_}
 use native.Mathlib.Nat.{add-zero}
 use native.Mathlib.Omega.{arith}
 use borrow.Author.Needs.{needs}
-use lib.ListN.{length, take, drop, getD}
+use lib.ListN.{take, drop, getD}
 use lib.Seq.{getD-drop, drop-drop}
-use Rattle.cdi.specs.Walk.{Found}
-use Rattle.lines_words.specs.Bytes.{line, linesOf, linesIn}
+use Rattle.lines_words.specs.Bytes.{line, linesIn}
 
 -- i of the variables have their lines, and what is left gives what the whole gives
 pub record Lined (o : List ℕ) (n : ℕ) (xs : List ℕ) (count at i : ℕ) : Type 0 where

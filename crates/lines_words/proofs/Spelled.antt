@@ -1,6 +1,6 @@
 -- The fewest digits that hold a number are its decimal form.
 use mathlib.Core.Path.{_≡_, refl, sym, ap, subst, _∙_}
-use mathlib.Core.List.{List, [], _∷_, _++_}
+use mathlib.Core.List.{[], _∷_, _++_}
 use Prim.Native.Nat.{ℕ, zero, suc, _+_, _-_, _*_, _/_, _%_, _^_, _≤_, _<_}
 use native.Mathlib.Nat.{add-zero, pow-suc, le-of-eq, le-trans, lt-of-lt-of-le, mod-lt, mod-eq-of-lt}
 use native.Mathlib.Omega.{arith}

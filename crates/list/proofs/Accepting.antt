@@ -8,7 +8,7 @@ use native.Mathlib.Decide.{decLe}
 use lib.IntN.{ℤ}
 use lib.ListN.{length, take, drop}
 use lib.Seq.{take-at}
-use Rattle.cdi.specs.Faults.{fault, Answer, accepted, refused}
+use Rattle.cdi.specs.Faults.{Answer, accepted, refused}
 use Rattle.cdi.specs.Table.{recordsOf, tableOf}
 use Rattle.cdi.specs.Plans.{isPlan}
 use Rattle.cdi.specs.Planning.{Description, Counts, described, planned, countsOf, placed, tableAfter}
@@ -18,7 +18,7 @@ use Rattle.cdi.proofs.PlanOf.{length-table}
 use Rattle.cdi.proofs.Quiet.{impossible}
 use borrow.Author.Needs.{needs}
 use Rattle.plan_stages.specs.declared.Planned.{Planned}
-use Rattle.plan_stages.specs.declared.Planned.the-variants.{Accepted, Refused}
+use Rattle.plan_stages.specs.declared.Planned.the-variants.{Accepted}
 use Rattle.plan_stages.specs.Outlines.{answerOf}
 
 same-records : (c c′ : Counts) → accepted c ≡ accepted c′ → c .records ≡ c′ .records

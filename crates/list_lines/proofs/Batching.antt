@@ -1,9 +1,9 @@
 -- The lines of a batch are those of its variables.
-use mathlib.Core.Path.{_≡_, refl, sym, ap, _∙_}
+use mathlib.Core.Path.{_≡_, refl, ap, _∙_}
 use mathlib.Core.List.{List, [], _∷_, _++_}
-use Prim.Native.Nat.{ℕ, zero, suc, _+_, _*_, _/_, _≤_, _<_}
+use Prim.Native.Nat.{ℕ, _+_, _*_, _/_, _≤_, _<_}
 use native.Mathlib.Omega.{arith}
-use lib.ListN.{length, take, drop, length-take}
+use lib.ListN.{length, drop, length-take}
 use Rattle.cdi.specs.Walk.{Found}
 use Rattle.listing.specs.Batch.{numbersOf, batch, listed}
 use Rattle.lines_words.specs.Bytes.{linesOf, linesIn}

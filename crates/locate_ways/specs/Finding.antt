@@ -75,7 +75,3 @@ pub record Chosen (t : List ℤ) (i a n : ℕ) : Type 0 where
   pub rises : allRise t i ≤ 2 ^ 33
   pub falls : allFall t i ≤ 2 ^ 33
   pub low : n / eachOf t i * ((allFall t i - allRise t i) / replicationOf t i) ≤ a
-
-unfoldable pub finding-page : Unit {0}
-unfolding answer insideOf standing movedBy allRise allFall eachOf copyAt copyOf
-finding-page = tt

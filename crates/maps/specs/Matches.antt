@@ -26,7 +26,3 @@ noNodes = end
 -- an element of that name and content is a relation whose property passes
 unfoldable pub matchOf : (Nodes → Bool) → List ℕ → Nodes → Bool
 matchOf f n kids = cond (same n (ascii "relation")) (given (childOf (ascii "property") kids) false f) false
-
-unfoldable pub matches-page : Unit {0}
-unfolding isEqual wantedOf matchOf
-matches-page = tt

@@ -34,7 +34,3 @@ pub record Rares (s : List ℕ) (at n e : ℕ) (refers : Bool) : Type 0 where
   pub number : n ≡ rareFault (cut .kind)
   pub end : e ≡ cut .end
   pub refer : refers ≡ isRefer (cut .kind)
-
-unfoldable pub rare-page : Unit {0}
-unfolding rareFault isRefer
-rare-page = tt

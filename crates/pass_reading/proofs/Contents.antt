@@ -10,11 +10,11 @@ use borrow.Author.Tests.{eq-eqb, ne-eqb, eqb-true}
 use lib.Dec.{eqb, ltb}
 use lib.IntN.{ℤ}
 use lib.ListN.{length, drop, drop-of-length-le}
-use Rattle.cdi.specs.Words.{begins, while, isEmpty}
+use Rattle.cdi.specs.Words.{while, isEmpty}
 use Rattle.cdi.specs.Faults.{unless, lesser, least}
 use Rattle.cdi.specs.Markup.{outside, markupFaults}
 use Rattle.cdi.proofs.Tests.{both-left, both-right}
-use Rattle.cdi.specs.Pieces.{Piece, text, remark, refer, blank, pieces}
+use Rattle.cdi.specs.Pieces.{Piece, text, refer, blank, pieces}
 use Rattle.cdi.proofs.Quiet.{impossible}
 use Rattle.scan.proofs.Tests.{eq-or-ne}
 use Rattle.pieces_cuts.specs.Places.{part}
@@ -22,7 +22,7 @@ use Rattle.pieces_cuts.specs.Cuts.{pieceOf, textOf, Stands}
 use Rattle.pieces_cuts.specs.declared.Kind.{Kind}
 use Rattle.pieces_cuts.specs.declared.Kind.the-variants.{Start, Finish, Remark, Refer, Text, Malformed, Unsupported}
 use Rattle.pieces_cuts.specs.declared.Cut.{Cut}
-use Rattle.marks_cuts.specs.Marks.{sortAt, textCut, finishCut, badCut}
+use Rattle.marks_cuts.specs.Marks.{sortAt}
 use Rattle.marks_cuts.proofs.Others.{other-text}
 use Rattle.marks_cuts.proofs.Sorts.{sort-is, end-sort, end-room, text-sort, other-sort}
 use Rattle.marks_runs.specs.Runs.{Runs}
@@ -31,11 +31,11 @@ use Rattle.rules_judge.specs.declared.Judge.{Judge}
 use Rattle.judges_state.specs.Steps.{rareOf}
 use Rattle.judges_model.proofs.Rare.{a-reference}
 use Rattle.pass_steps.specs.Asks.{stepOf, aroundOf}
-use Rattle.pass_steps.specs.declared.Step.the-variants.{Pass, Stop}
+use Rattle.pass_steps.specs.declared.Step.the-variants.{Pass}
 use Rattle.pass_steps.specs.declared.Around.the-variants.{Skip, Stray}
-use Rattle.pass_marks.specs.Rare.{rareFault, isRefer, Rares}
+use Rattle.pass_marks.specs.Rare.{isRefer, Rares}
 use Rattle.pass_marks.proofs.Rarely.{rare-stops, rare-passes}
-use Rattle.pass_sums.specs.Sums.{recordsOf, otherOf, atFirst}
+use Rattle.pass_sums.specs.Sums.{otherOf, atFirst}
 use Rattle.pass_sums.specs.declared.State.{State as Summed}
 use Rattle.pass_laws.specs.Passing.{Passed, Fails}
 use Rattle.pass_laws.proofs.Steps.{none-yet, farther, fails-later, unclosed, stopped, passes}

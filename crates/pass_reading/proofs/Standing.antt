@@ -1,20 +1,18 @@
 -- What stands at a place, by the answers of the readers.
-use mathlib.Core.Path.{_≡_, refl, sym, ap, _∙_}
+use mathlib.Core.Path.{_≡_, refl, _∙_}
 use mathlib.Core.List.{List}
-use mathlib.Core.Bool.{Bool, true, false, cond}
+use mathlib.Core.Bool.{Bool, true, false}
 use mathlib.Core.Option.{Option, none, some}
 use Prim.Native.Nat.{ℕ, _+_, _≤_, _<_}
-use native.Mathlib.Omega.{arith}
 use borrow.Author.Tests.{eq-eqb, ne-eqb}
-use lib.Dec.{eqb}
-use lib.ListN.{length, drop}
-use Rattle.cdi.specs.Pieces.{attributes, tagEnd, twice}
+use lib.ListN.{drop}
+use Rattle.cdi.specs.Pieces.{attributes, twice}
 use Rattle.cdi.specs.Markup.{refers}
 use Rattle.cdi.proofs.Quiet.{impossible}
 use Rattle.pieces_cuts.specs.Places.{Name}
 use Rattle.pieces_cuts.specs.Cuts.{Stands}
 use Rattle.marks_cuts.specs.Marks.{sortAt, startCut, badCut}
-use Rattle.marks_cuts.proofs.Tags.{unnamed, unended, doubled, tagged}
+use Rattle.marks_cuts.proofs.Tags.{unended, doubled, tagged}
 use Rattle.tags.specs.Reads.{closeOf, Reads}
 use Rattle.tags.specs.declared.Tag.{Tag}
 

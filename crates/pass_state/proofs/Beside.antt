@@ -1,21 +1,18 @@
 -- The steps of the state: judge and gauge beside each other.
 use mathlib.Core.Path.{_≡_, refl, sym, ap, _∙_}
 use mathlib.Core.List.{List, []}
-use mathlib.Core.Bool.{Bool, false, cond}
+use mathlib.Core.Bool.{false, cond}
 use Prim.Native.Nat.{ℕ, _+_, _≤_, _<_}
 use native.Mathlib.Omega.{arith}
 use borrow.Author.Needs.{needs}
 use lib.Dec.{eqb}
 use lib.IntN.{ℤ}
 use lib.ListN.{drop}
-use Rattle.cdi.specs.Words.{isEmpty}
 use Rattle.cdi.specs.Faults.{least}
-use Rattle.cdi.specs.Pieces.{Attribute, Piece, attributes}
-use Rattle.cdi.specs.Rules.{attributeFaults}
+use Rattle.cdi.specs.Pieces.{Piece, attributes}
 use Rattle.names.specs.Names.{elementNumber}
 use Rattle.rules_judge.specs.Judging as J
-use Rattle.rules_judge.specs.Judging.{rowAt}
-use Rattle.rules_judge.specs.Tables.{entryAt, intSize}
+use Rattle.rules_judge.specs.Tables.{entryAt}
 use Rattle.rules_judge.specs.declared.Least.the-variants.{Nothing}
 use Rattle.rules_judge.specs.declared.Said.{Said}
 use Rattle.rules_judge.specs.declared.Judge.{Judge as Known}
@@ -30,7 +27,7 @@ use Rattle.gauge.proofs.Named.{enter-named, leave-named, written-named}
 use Rattle.gauges_state.specs.Flat.{gaugeOf, Kept}
 use Rattle.gauges_state.specs.declared.Gauge.{Gauge}
 use Rattle.tags_faults.specs.Told.{faultsAt}
-use Rattle.tags_numbers.specs.Given.{givenBy, numbersOf, Bounded}
+use Rattle.tags_numbers.specs.Given.{numbersOf, Bounded}
 use Rattle.gauges.proofs.Leaving.{left-by, stored-by}
 use Rattle.tags.specs.Reads.{Reads}
 use Rattle.tags.specs.declared.Tag.{Tag}

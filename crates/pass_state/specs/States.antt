@@ -4,7 +4,6 @@ use Rattle.rules_judge.specs.declared.Said.{Said}
 use Rattle.judges_state.specs.Decoded.{judgeOf, Placed}
 use Rattle.judges_state.specs.Steps.{leafBy}
 use Rattle.gauges_state.specs.Flat.{gaugeOf, Kept}
-use Rattle.pass_sums.specs.Sums.{recordsOf}
 use Rattle.pass_sums.specs.declared.State.{State as Summed}
 use Rattle.pass_state.specs.declared.State.{State}
 
@@ -20,7 +19,3 @@ pub record Fits (st : State) : Type 0 where
 -- the state behind a plain leaf
 unfoldable pub leafOf : Summed → ℕ → ℕ → ℕ → Said → Summed
 leafOf st p child entry said = record { judge = leafBy (st .judge) p child entry said; gauge = st .gauge; root = st .root }
-
-unfoldable pub states-page : Unit {0}
-unfolding stateOf leafOf
-states-page = tt

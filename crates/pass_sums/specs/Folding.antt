@@ -20,7 +20,3 @@ foldNodes st t (other p c following) = foldNodes (otherOf st p c) t following
 foldNodes st t (element p n s kids following) =
     let i = foldNodes (enterOf st p n s) t kids in
     foldNodes (leaveOf st p n s (i .state)) (writtenOf st p n s (i .state) (i .table)) following
-
-unfoldable pub folding-page : Unit {0}
-unfolding foldNodes
-folding-page = tt

@@ -36,7 +36,3 @@ leaveOf outer p n s inner =
 -- what leaving it makes of the table
 unfoldable pub writtenOf : State → ℕ → List ℕ → List Attribute → State → List ℤ → List ℤ
 writtenOf outer p n s inner t = G.written (outer .gauge) p n s (inner .gauge) t
-
-unfoldable pub sums-page : Unit {0}
-unfolding recordsOf atFirst enterOf otherOf leaveOf writtenOf
-sums-page = tt

@@ -39,7 +39,3 @@ utf8Of c = cond (ltb c 0x110000) (utf8 c) []
 pub record Encoded (c : ℕ) (r : Encoding) : Type 0 where
   pub is : r .bytes ≡ padded 4 (utf8Of c)
   pub count : r .length ≡ length (utf8Of c)
-
-unfoldable pub characters-page : Unit {0}
-unfolding digitIn valueIn further byNumber utf8Of
-characters-page = tt

@@ -111,7 +111,3 @@ pub record Stands (s : List ℕ) (at : ℕ) (r : Cut) : Type 0 where
 -- a start tag that closes as it says, unless a name stands twice in it: its name ends before n, and it ends before e
 unfoldable pub tagOf : List ℕ → ℕ → ℕ → Bool → Option (Piece × List ℕ)
 tagOf s n e k = cond (twice (attributes 0 (drop n s))) none (some (start (part s 1 n) (attributes 0 (drop n s)) k, drop e s))
-
-unfoldable pub cuts-page : Unit {0}
-unfolding pieceOf before nameOf textOf codeOf shortOf refersOf tagOf
-cuts-page = tt

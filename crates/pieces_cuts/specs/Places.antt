@@ -74,7 +74,3 @@ pub record Closes (s : List ℕ) (at r : ℕ) : Type 0 where
   pub all : attributes 0 (drop r s) ≡ []
   pub low : at ≤ r
   pub high : r ≤ length s
-
-unfoldable pub places-page : Unit {0}
-unfolding attributeFrom closing
-places-page = tt

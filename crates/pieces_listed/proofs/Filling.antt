@@ -1,15 +1,15 @@
 -- A table that is filled with the names of a tag's attributes.
-use mathlib.Core.Path.{_≡_, refl, sym, ap, _∙_}
+use mathlib.Core.Path.{_≡_, refl, sym, _∙_}
 use mathlib.Core.List.{List, [], _∷_}
 use mathlib.Core.Bool.{Bool, true, false, _||_}
 use mathlib.Core.Logic.{_⊎_, inl, inr, ⊎-elim}
 use Prim.Native.Nat.{ℕ, _+_, _≤_, _<_}
 use native.Mathlib.Omega.{arith}
 use borrow.Author.Needs.{needs}
-use lib.ListN.{length, drop, getD, set, length-set}
+use lib.ListN.{length, drop, getD, set}
 use lib.Seq.{getD-set-same, getD-set-other}
 use Rattle.cdi.specs.Words.{any, same}
-use Rattle.cdi.specs.Pieces.{Attribute, attributes, bears, twice}
+use Rattle.cdi.specs.Pieces.{attributes, bears, twice}
 use Rattle.cdi.proofs.Quiet.{impossible, same-equal}
 use Rattle.pieces_cuts.specs.Places.{part, Next}
 use Rattle.pieces_cuts.specs.declared.places.Attribute.{Attribute as Places}

@@ -1,19 +1,19 @@
 -- The stages in their order: what was opened is planned.
-use mathlib.Core.Path.{_≡_, refl, sym, ap, _∙_}
+use mathlib.Core.Path.{_≡_, sym, ap, _∙_}
 use mathlib.Core.List.{List}
 use Prim.Native.Nat.{ℕ, _-_}
 use native.Mathlib.Omega.{arith}
 use borrow.Author.Needs.{needs}
 use lib.IntN.{ℤ}
 use lib.ListN.{length, take, drop}
-use Rattle.cdi.specs.Faults.{Answer, fault, accepted, refused, _andThen_}
+use Rattle.cdi.specs.Faults.{Answer, fault, refused, _andThen_}
 use Rattle.cdi.specs.Planning.{ending, characters, opening, planned, described, tableAfter}
 use Rattle.plan_opening.specs.declared.Opened.{Opened}
 use Rattle.plan_opening.specs.declared.Opened.the-variants as opened
 use Rattle.plan_opening.specs.Openings.{openedOf}
 use Rattle.plan_opening.proofs.Lent.{lent-end, lent-long, lent-short}
 use Rattle.plan_stages.specs.declared.Planned.{Planned}
-use Rattle.plan_stages.specs.declared.Planned.the-variants.{Accepted, Refused}
+use Rattle.plan_stages.specs.declared.Planned.the-variants.{Refused}
 use Rattle.plan_stages.specs.Outlines.{Outline, outlineOf, ofMarkup, answerOf, plannedBy, afterBy}
 use Rattle.plan_table.proofs.Placing.{planned-so, written-so}
 

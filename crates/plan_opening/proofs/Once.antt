@@ -3,8 +3,7 @@ use mathlib.Core.Path.{_≡_, sym, ap, _∙_}
 use mathlib.Core.List.{List}
 use mathlib.Core.Option.{some}
 use Prim.Native.Nat.{ℕ}
-use Rattle.cdi.specs.Faults.{Fault, fault, Answer, refused}
-use Rattle.cdi.specs.Text.{endOf}
+use Rattle.cdi.specs.Faults.{Fault, fault, Answer}
 use Rattle.cdi.proofs.Quiet.{impossible}
 use Rattle.plan_opening.specs.declared.Opened.{Opened}
 use Rattle.plan_opening.specs.declared.Opened.the-variants.{Ends, Refused}

@@ -2,7 +2,7 @@
 use mathlib.Core.Path.{_≡_, refl, sym, ap, _∙_}
 use mathlib.Core.List.{List}
 use mathlib.Core.Bool.{Bool, true, false}
-use mathlib.Core.Option.{Option, none, some}
+use mathlib.Core.Option.{some}
 use Prim.Native.Nat.{ℕ, _-_, _≤_}
 use native.Mathlib.Omega.{arith}
 use borrow.Author.Needs.{needs}
@@ -10,7 +10,7 @@ use lib.ListN.{length, take, drop, length-take}
 use lib.Seq.{take-length}
 use Rattle.cdi.specs.Words.{begins}
 use Rattle.cdi.specs.Faults.{accepted, _andThen_}
-use Rattle.cdi.specs.Text.{endOf, badCharacter, firstLine}
+use Rattle.cdi.specs.Text.{badCharacter, firstLine}
 use Rattle.cdi.specs.Planning.{ending, characters, opening}
 use Rattle.scan.proofs.Words.{begun-length}
 use Rattle.text.specs.Answers as T

@@ -23,7 +23,3 @@ Whole c (Refused n p) = Unit
 unfoldable pub Ended : List ℕ → Opened → Type 0
 Ended b (Ends e) = (endOf b ≡ some e) × ((22 ≤ e) × ((e ≤ 65535) × (e ≤ length b)))
 Ended b (Refused n p) = Unit
-
-unfoldable pub openings-page : Unit {0}
-unfolding openedOf Whole Ended
-openings-page = tt

@@ -5,7 +5,7 @@ use mathlib.Core.List.{List}
 use Prim.Native.Nat.{ℕ, _*_}
 use lib.IntN.{ℤ}
 use lib.ListN.{take}
-use Rattle.cdi.specs.Faults.{Fault, fault, Answer, accepted, refused}
+use Rattle.cdi.specs.Faults.{Fault, fault, Answer, accepted}
 use Rattle.cdi.proofs.Quiet.{impossible}
 use Rattle.plan_stages.specs.declared.Planned.{Planned}
 use Rattle.plan_stages.specs.declared.Planned.the-variants.{Accepted, Refused}

@@ -9,7 +9,7 @@ use borrow.Author.Needs.{needs}
 use lib.Dec.{leb}
 use lib.IntN.{ℤ}
 use lib.ListN.{length}
-use Rattle.cdi.specs.Faults.{Fault, fault, least, Answer, accepted, refused, _andThen_, stage}
+use Rattle.cdi.specs.Faults.{Fault, fault, least, Answer, _andThen_, stage}
 use Rattle.cdi.specs.Markup.{reading, markupFaults}
 use Rattle.cdi.specs.Tree.{tree}
 use Rattle.cdi.specs.Planning.{cut, markup}

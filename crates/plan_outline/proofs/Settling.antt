@@ -11,7 +11,7 @@ use lib.Dec.{leb}
 use lib.IntN.{ℤ, pos}
 use lib.ListN.{length, take, replicate, length-append, length-replicate}
 use lib.Seq.{sets, sets-eq, take-at, take-append-seam}
-use Rattle.cdi.specs.Faults.{Fault, fault, least, Answer, accepted, refused, _andThen_, stage}
+use Rattle.cdi.specs.Faults.{Fault, fault, least, Answer, accepted, refused, _andThen_}
 use Rattle.cdi.specs.Tree.{Nodes}
 use Rattle.cdi.specs.Rules.{elementFaults}
 use Rattle.cdi.specs.Walk.{total}

@@ -9,7 +9,7 @@ use Rattle.cdi.specs.Faults.{fault, Answer, accepted, refused, _andThen_}
 use Rattle.cdi.specs.Tree.{Nodes}
 use Rattle.cdi.specs.Walk.{total}
 use Rattle.cdi.specs.Table.{tableOf, recordsOf}
-use Rattle.cdi.specs.Planning.{Description, Counts, characters, opening, markup, elements, addresses, counting, described, placed}
+use Rattle.cdi.specs.Planning.{Description, Counts, markup, elements, addresses, counting, described, placed}
 use Rattle.rules_judge.specs.declared.Least.{Least}
 use Rattle.rules_judge.specs.declared.Least.the-variants.{Nothing, Is}
 use Rattle.gauge_tag.specs.declared.Leaves.{Leaves}
@@ -35,11 +35,7 @@ outlined d = accepted (outline (recordsOf (d .segments)) (total (d .segments)) (
 unfoldable pub outlineOf : List ℕ → Answer Outline
 outlineOf b = described b andThen outlined
 
--- stages 2 to 12 of its content
-unfoldable pub ofContent : List ℕ → Answer Outline
-ofContent c = characters c andThen opening andThen markup andThen elements andThen addresses andThen counting andThen outlined
-
--- stages 4 to 12
+-- stages 4 to 12 of its content
 unfoldable pub ofMarkup : List ℕ → Answer Outline
 ofMarkup c = markup c andThen elements andThen addresses andThen counting andThen outlined
 
@@ -99,7 +95,3 @@ plannedBy (refused f) l = Refused (f .number) (f .place)
 unfoldable pub afterBy : Answer Outline → List ℤ → List ℤ
 afterBy (accepted o) t = cond (leb (8 * o .records) (length t)) (placed (o .rows) t) t
 afterBy (refused f) t = t
-
-unfoldable pub outlines-page : Unit {0}
-unfolding outlined outlineOf ofContent ofMarkup ofTree inRoom saidOf Few answerOf countedBy addressedBy ruledBy settledBy putOf plannedBy afterBy
-outlines-page = tt

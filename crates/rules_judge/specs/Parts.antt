@@ -47,7 +47,3 @@ leftOf j p k e said least sound =
       high = bounding (eqb k 20) (j .high) p said;
       sound = sound;
     }
-
-unfoldable pub parts-page : Unit {0}
-unfolding isNumeric isLimit missingBy numberBy intBy limitSound leftOf
-parts-page = tt

@@ -9,7 +9,3 @@ use Rattle.children.specs.declared.Part.{Part}
 -- a content that isn't there is empty
 unfoldable pub contentIn : List ℕ → Part → Nodes
 contentIn s p = given (nodesIn s p) end (λ k. k)
-
-unfoldable pub contents-page : Unit {0}
-unfolding contentIn
-contents-page = tt

@@ -39,7 +39,3 @@ lowOf min = numberOr min (signedOf (pos 0))
 -- "missing max is the largest value", by min and max
 unfoldable pub highOf : ℕ → Number → Number → Signed
 highOf size min max = numberOr max (signedOf (largest (belowZero min) size))
-
-unfoldable pub limits-page : Unit {0}
-unfolding ownIn childNumber belowZero numberOr lowOf highOf
-limits-page = tt

@@ -13,7 +13,6 @@ use lib.Signed.{leZ, ltZ}
 use mir.Syntax.{w64}
 use mir.Val.{Fits}
 use Rattle.cdi.specs.Words.{ascii, given}
-use Rattle.cdi.specs.Tree.{Nodes}
 use Rattle.cdi.specs.Numbers.{within}
 use Rattle.cdi.specs.Rules.{boundOf, isSigned, largest, boundsOf}
 use Rattle.cdi.specs.Values.{signed}
@@ -98,10 +97,6 @@ or-is : (o : Option ℤ) (z : ℤ) → numberOr (numberOf o) (signedOf z) ≡ si
 unfolding numberOr numberOf
 or-is none z = refl
 or-is (some y) z = refl
-
-pub signed-by-min : (n : ℕ) (kids : Nodes) → boundsOf n kids .signed ≡ isSigned (boundOf (ascii "min") kids)
-unfolding boundsOf
-signed-by-min n kids = refl
 
 module _ (s : List ℕ) (p : Part) {min : Number} (e : min ≡ numberOf (childNumber (ascii "min") (nodesIn s p))) where
   pub sign-is : {r : Bool} → r ≡ belowZero min → r ≡ isSigned (boundOf (ascii "min") (contentIn s p))

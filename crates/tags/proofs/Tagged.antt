@@ -4,31 +4,31 @@ use mathlib.Core.List.{List, [], _∷_}
 use mathlib.Core.Bool.{Bool, true, false, cond, not, _&&_, _||_}
 use mathlib.Core.Option.{Option, none, some}
 use mathlib.Core.Logic.{⊎-elim}
-use Prim.Native.Nat.{ℕ, zero, suc, _+_, _-_, _≤_, _<_}
+use Prim.Native.Nat.{ℕ, _+_, _-_, _≤_, _<_}
 use native.Mathlib.Omega.{arith}
 use borrow.Author.Needs.{needs}
-use borrow.Author.Tests.{lt-ltb, le-ltb, eq-eqb, ne-eqb, eqb-true}
-use lib.Dec.{eqb, ltb, leb}
+use borrow.Author.Tests.{eq-eqb, ne-eqb, eqb-true}
+use lib.Dec.{eqb}
 use lib.ListN.{length, drop, getD, drop-of-length-le, List·getD-eq-default}
 use lib.Seq.{drop-drop}
-use Rattle.cdi.specs.Words.{ascii, any, all, same, begins, isEmpty, after, words-page}
+use Rattle.cdi.specs.Words.{any, all, same, begins, isEmpty, after, words-page}
 use Rattle.cdi.specs.Faults.{least}
 use Rattle.cdi.specs.Pieces.{Attribute, blank, attributes, tagEnd, bears, twice}
 use Rattle.cdi.specs.Markup.{refers}
 use Rattle.cdi.specs.Rules.{attributeFaults, valueOf, sizeText}
 use Rattle.cdi.proofs.Quiet.{impossible, same-equal}
-use Rattle.scan.specs.Spans.{ofClass, Span}
+use Rattle.scan.specs.Spans.{Span}
 use Rattle.scan.proofs.Along.{drop-next}
 use Rattle.scan.proofs.Spans.{span-rest}
-use Rattle.scan.proofs.Tests.{lt-or-le, eq-or-ne}
+use Rattle.scan.proofs.Tests.{lt-or-le}
 use Rattle.names.specs.Names.{attributeNumber}
 use Rattle.pieces_cuts.specs.Places.{closing, Closes}
 use Rattle.rules_judge.specs.Tables as T
-use Rattle.rules_judge.specs.Tables.{ruleAt, hasNumber, intSize, tables-page}
+use Rattle.rules_judge.specs.Tables.{tables-page}
 use Rattle.rules_judge.proofs.Below.{all-below, below}
 use Rattle.gauge_tag.specs.Numbered.{numbersBy}
-use Rattle.tags_values.specs.Codes.{amountFor, numbered, codeIn, amountIn}
-use Rattle.tags_cells.specs.Cells.{hasOne, knownTwice, Celled, Fresh}
+use Rattle.tags_values.specs.Codes.{amountFor, numbered, codeIn}
+use Rattle.tags_cells.specs.Cells.{hasOne, knownTwice, Fresh}
 use Rattle.tags_faults.specs.Told.{faultBy, Coded, faultsAt, told-page}
 use Rattle.tags_faults.proofs.Ruled.{none-told}
 use Rattle.tags_faults.proofs.Faulted.{told, fault-small}

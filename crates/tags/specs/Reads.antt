@@ -48,7 +48,3 @@ pub record Reads (s : List ℕ) (n e : ℕ) (r : Tag) : Type 0 where
   pub size : (r .end ≡ 0 → ⊥) → r .exact ≡ intSize (attributes 0 (drop n s))
   pub numbers : (r .end ≡ 0 → ⊥) → r .given ≡ givenBy e (numbersBy e (attributes 0 (drop n s)))
   pub bounded : (r .end ≡ 0 → ⊥) → Bounded e (r .given)
-
-unfoldable pub reads-page : Unit {0}
-unfolding closeOf
-reads-page = tt

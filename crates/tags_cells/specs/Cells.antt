@@ -5,11 +5,10 @@ use mathlib.Core.Bool.{Bool, false, cond, not, _&&_, _||_}
 use Prim.Native.Nat.{ℕ, _≤_}
 use lib.Dec.{eqb}
 use lib.ListN.{length, getD, set}
-use Rattle.cdi.specs.Words.{any, all}
+use Rattle.cdi.specs.Words.{any}
 use Rattle.cdi.specs.Pieces.{Attribute}
-use Rattle.cdi.specs.Markup.{refers}
 use Rattle.names.specs.Names.{attributeNumber}
-use Rattle.rules_judge.specs.Tables.{hasNumber, sizeIn, intSize}
+use Rattle.rules_judge.specs.Tables.{sizeIn}
 use Rattle.tags_values.specs.Codes.{amountFor, codeOf, amountOf, codeIn, amountIn}
 
 -- ── one attribute more ──
@@ -56,7 +55,3 @@ pub record Fresh (codes amounts : List ℕ) : Type 0 where
   pub amount : (a : ℕ) → 1 ≤ a → a ≤ 10 → getD amounts a 0 ≡ amountFor a
   pub codes-long : length codes ≡ 11
   pub amounts-long : length amounts ≡ 11
-
-unfoldable pub cells-page : Unit {0}
-unfolding isFirst withCode withAmount withExact hasOne wasMet knownTwice
-cells-page = tt

@@ -11,7 +11,7 @@ use Rattle.cdi.proofs.Tests.{both-left, both-right}
 use lib.Dec.{eqb, ltb, leb}
 use lib.IntN.{ℤ, pos}
 use lib.Signed.{ltZ}
-use lib.ListN.{length, getD, List·getD-eq-default}
+use lib.ListN.{getD, List·getD-eq-default}
 use Rattle.cdi.specs.Words.{ascii, given, any, all, same, among, words-page}
 use Rattle.cdi.specs.Faults.{Fault, fault, unless, before, lesser, least}
 use Rattle.cdi.specs.Pieces.{Attribute}
@@ -27,10 +27,10 @@ use Rattle.rules_judge.specs.Tables.{ruleNumbers, ruleOf, ruleAt, attributeOf, 
 use Rattle.rules_judge.proofs.Below.{all-below, below, Below, at-below}
 use Rattle.rules_judge.proofs.Sized.{int-size, float-size}
 use Rattle.rules_judge.proofs.Tabled.{row-rules}
-use Rattle.tags_values.specs.Codes.{rangeCode, formCode, codeFaults, ruleFor, codeOf, numbered, codeIn, codes-page}
+use Rattle.tags_values.specs.Codes.{rangeCode, formCode, codeFaults, ruleFor, codeOf, numbered, codeIn}
 use Rattle.tags_values.proofs.Formed.{form-codes, code-high}
 use Rattle.tags_values.proofs.Numbered.{by-number, numbered-named}
-use Rattle.tags_faults.specs.Told.{lesserOf, ownBy, neededBy, intBy, floatBy, ruleBy, rulesBy, faultBy, Coded, faultsAt, told-page}
+use Rattle.tags_faults.specs.Told.{lesserOf, ownBy, neededBy, intBy, floatBy, ruleBy, rulesBy, faultBy, Coded, faultsAt}
 
 -- ── the code of a form says its faults ──
 

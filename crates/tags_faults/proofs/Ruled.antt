@@ -1,7 +1,7 @@
 -- The rules of an element by the codes, one law for each way through the code.
 use mathlib.Core.Path.{_≡_, refl, sym, ap, _∙_}
 use mathlib.Core.List.{List, [], _∷_}
-use mathlib.Core.Bool.{Bool, true, false, cond}
+use mathlib.Core.Bool.{Bool, true, false}
 use mathlib.Core.Logic.{⊎-elim}
 use Prim.Native.Nat.{ℕ, zero, suc, _+_, _≤_, _<_}
 use native.Mathlib.Omega.{arith}
@@ -9,7 +9,7 @@ use borrow.Author.Needs.{needs}
 use borrow.Author.Tests.{eqb-true}
 use lib.Dec.{eqb}
 use lib.ListN.{length, getD, List·getD-eq-default}
-use Rattle.scan.proofs.Tests.{lt-or-le, eq-or-ne}
+use Rattle.scan.proofs.Tests.{eq-or-ne}
 use Rattle.rules_judge.specs.Tables.{ruleNumbers, ruleAt, attributeOf, tables-page}
 use Rattle.rules_judge.proofs.Below.{all-below, below, Below, at-below}
 use Rattle.tags_faults.specs.Told.{lesserOf, ruleBy, rulesBy, faultBy, told-page}

@@ -2,16 +2,16 @@
 use mathlib.Core.Path.{_≡_, refl, sym, ap, _∙_}
 use mathlib.Core.List.{List, [], _∷_}
 use mathlib.Core.Bool.{Bool, true, false, cond, not, _&&_, _||_}
-use mathlib.Core.Option.{Option, none, some}
+use mathlib.Core.Option.{none}
 use mathlib.Core.Logic.{⊎-elim}
-use Prim.Native.Nat.{ℕ, suc, _+_, _-_, _≤_, _<_}
+use Prim.Native.Nat.{ℕ, _+_, _-_, _≤_, _<_}
 use native.Mathlib.Omega.{arith}
 use borrow.Author.Needs.{needs}
 use borrow.Author.Tests.{eq-eqb, ne-eqb}
 use lib.Dec.{eqb}
 use lib.ListN.{length, drop, getD, set, length-set}
 use lib.Seq.{getD-set-same, getD-set-other}
-use Rattle.cdi.specs.Words.{ascii, given, any, all, same, words-page}
+use Rattle.cdi.specs.Words.{ascii, any, all, same, words-page}
 use Rattle.cdi.specs.Pieces.{Attribute, attributes}
 use Rattle.cdi.specs.Markup.{refers}
 use Rattle.cdi.specs.Rules.{valueOf, sizeText}
@@ -26,10 +26,9 @@ use Rattle.tags_spots.specs.Spots.{placesOf, Tells}
 use Rattle.tags_spots.specs.declared.Spot.{Spot}
 use Rattle.tags_values.specs.Codes.{amountFor, codeOf, amountOf, numbered, codeIn, amountIn}
 use Rattle.tags_values.proofs.Formed.{code-there}
-use Rattle.tags_values.proofs.Numbered.{by-number, numbered-named}
-use Rattle.tags_cells.specs.Cells.{isFirst, withCode, withAmount, withExact, hasOne, wasMet, knownTwice, Celled, Fresh}
+use Rattle.tags_values.proofs.Numbered.{by-number}
+use Rattle.tags_cells.specs.Cells.{isFirst, withCode, withAmount, withExact, hasOne, wasMet, knownTwice, Fresh}
 use Rattle.tags_gather.specs.Gathers.{Gathers}
-use Rattle.tags_gather.specs.declared.Gathered.{Gathered}
 
 -- ── the cells ──
 

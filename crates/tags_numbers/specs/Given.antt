@@ -66,7 +66,3 @@ pub record Bounded (e : ℕ) (m : Given) : Type 0 where
   pub width : m .width ≤ 65535
   pub least-copies : 1 ≤ m .copies
   pub most-copies : m .copies ≤ 2147483647
-
-unfoldable pub given-page : Unit {0}
-unfolding offsetBy givenIn givenBy numbersOf
-given-page = tt

@@ -1,19 +1,18 @@
 -- One attribute, read once: what is told of it beside its places.
-use mathlib.Core.Path.{_≡_, refl, sym, ap, _∙_}
+use mathlib.Core.Path.{_≡_, _∙_}
 use mathlib.Core.List.{List}
-use mathlib.Core.Bool.{Bool, true, false}
+use mathlib.Core.Bool.{Bool, false}
 use Prim.Native.Nat.{ℕ, _+_, _-_, _≤_, _<_}
 use native.Mathlib.Omega.{arith}
 use borrow.Author.Needs.{needs}
 use lib.Dec.{eqb}
-use lib.ListN.{length, take, drop}
+use lib.ListN.{take, drop}
 use Rattle.cdi.specs.Words.{any}
 use Rattle.cdi.specs.Pieces.{blank, valueByte}
 use Rattle.scan.specs.Spans.{ofClass, Span}
 use Rattle.scan.specs.declared.Class.the-variants.{Blank, Value}
 use Rattle.names.specs.Names.{attributeNumber}
 use Rattle.pieces_cuts.specs.Places.{part, Name, Quoted, Here}
-use Rattle.pieces_cuts.specs.declared.places.Attribute.{Attribute as Places}
 use Rattle.pieces_cuts.proofs.Finding.{room-one}
 use Rattle.pieces_attributes.proofs.Attributing.{value-cut, no-quote, value-ends, value-open, value-closed, absent, nowhere, nameless, no-equals, valueless, present, none-next, no-blank, not-next, is-next}
 use Rattle.tags_spots.specs.Spots.{placesOf, Tells, Refers}

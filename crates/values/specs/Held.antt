@@ -19,7 +19,3 @@ Plain w = w .negative ≡ true → 0 < w .magnitude
 unfoldable pub zeroAt : Zero → Option ℕ
 zeroAt (At i) = some i
 zeroAt Missing = none
-
-unfoldable pub held-page : Unit {0}
-unfolding wholeOf Plain zeroAt
-held-page = tt

@@ -48,7 +48,3 @@ pub record Told (s : List ℕ) (at : ℕ) (r : Own) : Type 0 where
 -- the place in a text behind a word that stands at its byte k; else one past its end
 unfoldable pub behindOf : List ℕ → List ℕ → ℕ → ℕ
 behindOf w t k = cond (begins w (drop k t)) (k + length w) (length t + 1)
-
-unfoldable pub own-page : Unit {0}
-unfolding roleOf isEnd textOf Within behindOf
-own-page = tt

@@ -1,6 +1,6 @@
 use native.Mathlib.Omega.{arith}
 use borrow.Author.Needs.{needs}
-use Rattle.list.proofs.Reading.{reading, in-slice}
+use Rattle.list.proofs.Reading.{in-slice}
 use Rattle.list.proofs.run.Statement.{statement}
 use Rattle.list.proofs.run.Tie as tie
 

@@ -1,9 +1,7 @@
 use borrow.Author.Needs.{needs}
 use mathlib.Core.Path.{_≡_}
-use mathlib.Core.Bool.{true}
 use Prim.Native.Nat.{_-_, _≤_, _/_, _*_}
 use lib.ListN.{length}
-use Rattle.cdi.specs.Plans.{isPlan}
 use Rattle.list.proofs.write_lines.Statement.{statement}
 use Rattle.list.proofs.write_lines.Tie as tie
 
