@@ -47,9 +47,6 @@ module _ {s : List ℕ} {i : ℕ} {c : Cut} (v : Stands s i c) where
   unfolding levels
   grown = ap levels (v .is)
 
-  level-there : ahead s i ≡ here s i ∷ tail (ahead s i)
-  level-there = split (from s i)
-
   module _ {k : Kind} (q : c .kind ≡ k) where
     grown-by : ahead s i ≡ grow i (pieceOf k s i c) (here s (c .end) ∷ tail (ahead s (c .end)))
     grown-by = grown ∙ ap (λ x. grow i (pieceOf x s i c) (ahead s (c .end))) q ∙ ap (grow i (pieceOf k s i c)) (split (from s (c .end)))

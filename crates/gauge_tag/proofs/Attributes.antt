@@ -1,4 +1,4 @@
--- Reading the numbers of a tag, as the code does it.
+-- The numbers of a tag: a sign and a magnitude as one number, the size, and that each lies in its range.
 use mathlib.Core.Path.{_≡_, refl, sym, ap, _∙_}
 use mathlib.Core.List.{List, []}
 use mathlib.Core.Bool.{Bool, true, false, cond}

@@ -10,18 +10,13 @@ use Rattle.cdi.specs.Pieces.{Attribute}
 use Rattle.cdi.specs.Rules.{natural, sizeOf}
 use Rattle.cdi.specs.Plans.{offsetFits}
 use Rattle.cdi.specs.Planning.{numberOr, offsetOf}
-use Rattle.extent.specs.Reach.{Small, nowhere, byOffset, bySize, join, repeat, fitsAt, held}
+use Rattle.extent.specs.Reach.{nowhere, byOffset, bySize, join, repeat, fitsAt, held}
 use Rattle.extent.specs.declared.Extent.{Extent}
 use Rattle.gauge_tag.specs.declared.Numbers.{Numbers}
 use Rattle.gauge_tag.specs.declared.Gauge.{Gauge}
 use Rattle.gauge_tag.specs.Gauging.{from-to, firstLeaving, changeOf}
 
 -- ── ranges ──
-
--- a gauge whose numbers are those that the code holds
-pub record Kept (g : Gauge) : Type 0 where
-  pub extent : Small (g .extent)
-  pub total : g .total ≤ 1000001
 
 -- the numbers of a tag, each in its range
 pub record Ranged (m : Numbers) : Type 0 where

@@ -5,8 +5,8 @@ use pieces_cuts::places::Attribute;
 use scan::begins_at;
 use scan::holds;
 use scan::same;
-use scan_runs::blank_end;
-use scan_runs::value_rest;
+use spans::blanks;
+use spans::value_rest;
 ghost use mathlib.Core.Path.{_≡_};
 ghost use Prim.Native.Nat.{_≤_};
 ghost use lib.ListN.{length, drop};
@@ -69,9 +69,9 @@ fn attribute_at(s: &[u8], at: usize) -> Attribute
     if behind == at {
         return no_attribute(at);
     }
-    let equals = blank_end(s, behind);
+    let equals = blanks(s, behind);
     if begins_at(s, equals, b"=") {
-        let quote = blank_end(s, equals + 1);
+        let quote = blanks(s, equals + 1);
         let end = value_end(s, quote);
         if end < quote + 2 {
             return no_attribute(at);
@@ -92,7 +92,7 @@ pub fn next_attribute(s: &[u8], at: usize) -> Attribute
     requires { ⌜ at ≤ length (now s) ⌝ }
     ensures { λ r. ⌜ Next (now (s .entry)) at r ⌝ }
 {
-    let name = blank_end(s, at);
+    let name = blanks(s, at);
     if name == at {
         return no_attribute(at);
     }

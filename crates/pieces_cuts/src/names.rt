@@ -1,7 +1,7 @@
 // Names: where the name that stands at a place ends.
 
 use scan::is_name_start;
-use scan_runs::name_rest;
+use spans::name_rest;
 ghost use Prim.Native.Nat.{_≤_};
 ghost use lib.ListN.{length};
 ghost use Rattle.pieces_cuts.specs.Places.{Name};

@@ -1,4 +1,4 @@
--- What a caller takes from the answer of `piece_at`, kind by kind.
+-- Whether a run of text is blank, by the place of its first byte that isn't.
 use mathlib.Core.Path.{_≡_, refl, sym, ap, _∙_}
 use mathlib.Core.List.{List, [], _∷_}
 use mathlib.Core.Bool.{Bool, true, false, cond, _&&_}

@@ -1,4 +1,4 @@
--- Entering a child, any other piece, and leaving a child, by each way through the code.
+-- Entering a child and leaving it, by its entry and its number.
 use mathlib.Core.Path.{_≡_, refl, sym, ap, _∙_}
 use mathlib.Core.List.{List, [], _∷_, _++_}
 use mathlib.Core.Bool.{Bool, true, false, cond, _&&_, _||_}

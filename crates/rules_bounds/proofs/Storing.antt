@@ -1,4 +1,4 @@
--- An int's bounds: half of the numbers of a size, proved once over the size; the sign, and the faults of min and max.
+-- What a size can store: half of its numbers, proved once over the size, and the range, signed or not.
 use mathlib.Core.Path.{_≡_, refl, ap, _∙_}
 use mathlib.Core.List.{List, [], _∷_}
 use mathlib.Core.Bool.{Bool, true, false, _&&_}

@@ -1,6 +1,8 @@
-// One byte at a place, and spans of one class of bytes each, so that no byte is asked for its class: blanks, and the bytes of a value.
+// One byte at a place, and spans of one class of bytes each, so that no byte is asked what another class would need: blanks, the bytes of a name and
+// those of a value. They say what `scan::span` says.
 
 use scan::is_blank;
+use scan::is_name_byte;
 ghost use mathlib.Core.Path.{_≡_};
 ghost use mathlib.Core.List.{[], _∷_};
 ghost use Prim.Native.Nat.{_-_, _≤_};
@@ -8,7 +10,8 @@ ghost use lib.Dec.{eqb};
 ghost use lib.ListN.{length, take, drop};
 ghost use Rattle.cdi.specs.Words.{any, begins};
 ghost use Rattle.cdi.specs.Pieces.{blank, valueByte};
-ghost use Rattle.scan.specs.Spans.{Span};
+ghost use Rattle.scan.specs.Spans.{ofClass, Span};
+ghost use Rattle.scan.specs.declared.Class.the-variants.{Name, Value};
 
 // Where a value ends: the place of its closing quote, or of what stands in its place, and whether `&` stands before it.
 pub struct Ended {
@@ -34,6 +37,38 @@ pub fn blanks(s: &[u8], at: usize) -> usize
     let mut i = at;
     while i < s.len() {
         if is_blank(s[i]) {
+            i += 1;
+        } else {
+            return i;
+        }
+    }
+    i
+}
+
+// The place behind the bytes of a name that stand at this place.
+pub fn name_rest(s: &[u8], at: usize) -> usize
+    requires { ⌜ at ≤ length (now s) ⌝ }
+    ensures { λ r. ⌜ Span (ofClass Name) (now (s .entry)) at r ⌝ }
+{
+    let mut i = at;
+    while i < s.len() {
+        if is_name_byte(s[i]) {
+            i += 1;
+        } else {
+            return i;
+        }
+    }
+    i
+}
+
+// The place behind the bytes of a value in this quote that stand at this place.
+pub fn value_rest(s: &[u8], at: usize, quote: u8) -> usize
+    requires { ⌜ at ≤ length (now s) ⌝ }
+    ensures { λ r. ⌜ Span (ofClass (Value quote)) (now (s .entry)) at r ⌝ }
+{
+    let mut i = at;
+    while i < s.len() {
+        if is_value_byte(quote, s[i]) {
             i += 1;
         } else {
             return i;

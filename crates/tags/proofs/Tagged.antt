@@ -32,7 +32,7 @@ use Rattle.tags_cells.specs.Cells.{hasOne, knownTwice, Fresh}
 use Rattle.tags_faults.specs.Told.{faultBy, Coded, faultsAt, told-page}
 use Rattle.tags_faults.proofs.Ruled.{none-told}
 use Rattle.tags_faults.proofs.Faulted.{told, fault-small}
-use Rattle.tags_numbers.specs.Given.{givenIn, givenBy, Holds, Cells, Bounded}
+use Rattle.tags_numbers.specs.Given.{givenIn, givenBy, Cells, Bounded}
 use Rattle.tags_numbers.specs.declared.Given.{Given}
 use Rattle.tags_numbers.proofs.Numbered.{cells-held, given-held}
 use Rattle.tags_gather.specs.Gathers.{Gathers}
@@ -192,18 +192,15 @@ module _ (s : List ℕ) (n e : ℕ) {l end : ℕ} {short : Bool} (c : Closes s n
       told = λ q p. told e p (attributes 0 (drop n s)) coded (v .exact) (v .know) ∙ ap (λ (m : ℕ). least (faultsAt p m)) (sym x);
       small = omega (arith, x, fault-small e {codes = codes} (g .exact) (g .known) (attributes 0 (drop n s)) coded);
       size = λ q. v .exact;
-      numbers = λ q. y ∙ given-held (attributes 0 (drop n s)) held e;
+      numbers = λ q. y ∙ given-held (attributes 0 (drop n s)) (v .cells) e;
       bounded = λ q. b;
     }
       where
         coded : Coded codes (attributes 0 (drop n s))
         coded = record { each = v .cells .code }
 
-        held : Holds codes amounts (attributes 0 (drop n s))
-        held = record { code = v .cells .code; amount = v .cells .amount }
-
   pub cells-right : {g : Gathered} {codes amounts : List ℕ} → Gathers e (attributes 0 (drop n s)) g codes amounts → Cells codes amounts
-  cells-right v = cells-held (attributes 0 (drop n s)) (record { code = v .cells .code; amount = v .cells .amount })
+  cells-right v = cells-held (attributes 0 (drop n s)) (v .cells)
 
 -- ── a tag without attributes ──
 

@@ -9,7 +9,7 @@ use Rattle.cdi.specs.Words.{any}
 use Rattle.cdi.specs.Pieces.{Attribute}
 use Rattle.names.specs.Names.{attributeNumber}
 use Rattle.rules_judge.specs.Tables.{sizeIn}
-use Rattle.tags_values.specs.Codes.{amountFor, codeOf, amountOf, codeIn, amountIn}
+use Rattle.tags_values.specs.Codes.{amountFor, codeOf, amountOf}
 
 -- ── one attribute more ──
 
@@ -43,11 +43,6 @@ knownTwice [] = false
 knownTwice (x ∷ s) = (not (eqb (attributeNumber (x .name)) 0) && any (hasOne (attributeNumber (x .name))) s) || knownTwice s
 
 -- ── all of them ──
-
--- the cells hold the attributes' codes and amounts
-pub record Celled (codes amounts : List ℕ) (s : List Attribute) : Type 0 where
-  pub code : (a : ℕ) → 1 ≤ a → a ≤ 10 → getD codes a 0 ≡ codeIn a s
-  pub amount : (a : ℕ) → 1 ≤ a → a ≤ 10 → getD amounts a 0 ≡ amountIn a s
 
 -- before the first
 pub record Fresh (codes amounts : List ℕ) : Type 0 where

@@ -7,7 +7,8 @@ use Rattle.cdi.specs.Words.{any, all}
 use Rattle.cdi.specs.Pieces.{Attribute}
 use Rattle.cdi.specs.Markup.{refers}
 use Rattle.rules_judge.specs.Tables.{ruleAt, attributeOf, hasNumber, intSize}
-use Rattle.tags_cells.specs.Cells.{hasOne, knownTwice, Celled}
+use Rattle.tags_values.specs.Codes.{Celled}
+use Rattle.tags_cells.specs.Cells.{hasOne, knownTwice}
 use Rattle.tags_gather.specs.declared.Gathered.{Gathered}
 
 -- the attributes s of a tag of element e: how many they are, whether `&` stands in a value, whether the element knows them all, whether one of

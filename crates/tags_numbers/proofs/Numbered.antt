@@ -24,7 +24,7 @@ use Rattle.cdi.specs.Plans.{offsetFits}
 use Rattle.cdi.specs.Planning.{numberOr, offsetOf}
 use Rattle.scan.proofs.Tests.{eq-or-ne}
 use Rattle.rules_judge.specs.Tables.{tables-page}
-use Rattle.tags_values.specs.Codes.{rangeCode, rangeAmount, codeIn, amountIn, codes-page}
+use Rattle.tags_values.specs.Codes.{rangeCode, rangeAmount, codeIn, amountIn, Celled, codes-page}
 use Rattle.tags_values.proofs.Numbered.{numbered-named}
 use Rattle.extent.proofs.Signed.{read, read-is}
 use Rattle.numbers.specs.Held.{withSign}
@@ -33,7 +33,7 @@ use Rattle.gauge_tag.specs.Gauging.{from-to}
 use Rattle.gauge_tag.specs.Numbered.{Ranged, naturalIn, offsetIn, sizeBy, numbersBy}
 use Rattle.gauge_tag.proofs.Attributes.{numbers-ranged, size-eventid, size-other, bare-are, bare-eventid, bare-other, minus-fits, minus-is, plain-is}
 use Rattle.tags_numbers.specs.declared.Given.{Given}
-use Rattle.tags_numbers.specs.Given.{offsetBy, givenIn, givenBy, Holds, Cells, Bounded}
+use Rattle.tags_numbers.specs.Given.{offsetBy, givenIn, givenBy, Cells, Bounded}
 
 abbrev three : ℤ → ℕ → ℕ → Given
 three a w c = record { address = a; width = w; copies = c }
@@ -138,7 +138,7 @@ small-offset c n z e r f = ⊎-elim
     above : (n : ℕ) → natural (pos n) ≤ 2 ^ 31 - 1 → n ≤ 2147483647
     above n h = unfold natural in omega (arith, h)
 
-module _ {codes amounts : List ℕ} (s : List Attribute) (h : Holds codes amounts s) where
+module _ {codes amounts : List ℕ} (s : List Attribute) (h : Celled codes amounts s) where
   cell : (a : ℕ) {n : ℕ} → 1 ≤ a → a ≤ 10 → amountIn a s ≡ n → getD amounts a 0 ≡ n
   cell a l k e = h .amount a l k ∙ e
 

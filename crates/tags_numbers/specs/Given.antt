@@ -6,9 +6,7 @@ use Prim.Native.Nat.{ℕ, _≤_}
 use lib.Dec.{eqb}
 use lib.IntN.{ℤ, pos, negℤ}
 use lib.ListN.{getD}
-use Rattle.cdi.specs.Pieces.{Attribute}
 use Rattle.cdi.specs.Rules.{natural}
-use Rattle.tags_values.specs.Codes.{codeIn, amountIn}
 use Rattle.gauge_tag.specs.declared.Numbers.{Numbers}
 use Rattle.tags_numbers.specs.declared.Given.{Given}
 
@@ -42,11 +40,6 @@ unfoldable pub numbersOf : Given → Numbers
 numbersOf m = record { offset = m .address; size = m .width; replication = m .copies; origin = natural (m .address); space = m .width }
 
 -- ── ranges ──
-
--- the cells hold the codes and the amounts of a tag's attributes
-pub record Holds (codes amounts : List ℕ) (s : List Attribute) : Type 0 where
-  pub code : (a : ℕ) → 1 ≤ a → a ≤ 10 → getD codes a 0 ≡ codeIn a s
-  pub amount : (a : ℕ) → 1 ≤ a → a ≤ 10 → getD amounts a 0 ≡ amountIn a s
 
 -- the amounts lie in their ranges
 pub record Cells (codes amounts : List ℕ) : Type 0 where

@@ -1,9 +1,11 @@
 -- What an attribute's value is by the attribute's number: a code, and the amount that it says.
+use mathlib.Core.Path.{_≡_}
 use mathlib.Core.List.{List, [], _∷_, map}
 use mathlib.Core.Bool.{Bool, cond, _||_}
 use mathlib.Core.Option.{Option, none, some}
-use Prim.Native.Nat.{ℕ}
+use Prim.Native.Nat.{ℕ, _≤_}
 use lib.Dec.{eqb, ltb}
+use lib.ListN.{getD}
 use lib.IntN.{ℤ, pos, negℤ, natAbs}
 use lib.Signed.{ltZ}
 use Rattle.cdi.specs.Words.{ascii, given, same, among}
@@ -79,6 +81,11 @@ codeIn a s = given (numbered a s) 0 (codeOf a)
 
 unfoldable pub amountIn : ℕ → List Attribute → ℕ
 amountIn a s = given (numbered a s) (amountFor a) (amountOf a)
+
+-- the cells hold the codes and the amounts of a tag's attributes
+pub record Celled (codes amounts : List ℕ) (s : List Attribute) : Type 0 where
+  pub code : (a : ℕ) → 1 ≤ a → a ≤ 10 → getD codes a 0 ≡ codeIn a s
+  pub amount : (a : ℕ) → 1 ≤ a → a ≤ 10 → getD amounts a 0 ≡ amountIn a s
 
 unfoldable pub codes-page : Unit {0}
 unfolding rangeCode formCode codeFaults rangeAmount textual lowAt highAt amountFor ruleFor codeOf amountOf numbered codeIn amountIn
