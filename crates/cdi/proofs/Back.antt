@@ -171,7 +171,7 @@ pub event-size : (k n : ℕ) → sizeFits k (pos n) ≡ true → k ≡ 5 → n �
 unfolding sizeFits oneOf any sameNumber
 event-size k n h e = eqb-true n 8 (sym (or-false (eqb n 8)) ∙ (rw e at h))
 
--- "An event ID comes in as a 64-bit number"
+-- an event ID has 64 bits
 unfoldable pub SixtyFour : Value → Type 0
 SixtyFour (integer z) = Unit
 SixtyFour (event e) = e < 2 ^ 64

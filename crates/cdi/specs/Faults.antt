@@ -33,7 +33,7 @@ unfoldable pub least : List Fault → Option Fault
 least [] = none
 least (f ∷ fs) = lesser (some f) (least fs)
 
--- "The library accepts, or gives one of document 01's numbered refusals with a place": what every call answers
+-- what every call answers: it accepts and gives something, or it refuses with a number and a place
 pub data Answer (A : Type 0) : Type 0 where
   accepted : A → Answer A
   refused : Fault → Answer A

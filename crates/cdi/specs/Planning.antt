@@ -67,7 +67,7 @@ pub record Description : Type 0 where
   pub root : ℕ
   pub segments : List Segment
 
--- of the root's content
+-- of the tree t, whose top level is gone through for the root
 unfoldable pub describe : Nodes → Nodes → Description
 describe t end = record { nodes = t; root = 0; segments = [] }
 describe t (other p c following) = describe t following

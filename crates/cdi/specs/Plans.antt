@@ -13,7 +13,7 @@ use Rattle.cdi.specs.Rules.{natural}
 use Rattle.cdi.specs.Walk.{Items, end, variable, group, Segment, Step, steps, count, change, segmentSteps, segmentKeeps, Found, walk, total}
 use Rattle.cdi.specs.Table.{sameNumber}
 
--- number f of record i, both counted from 0: the one place that knows where a table keeps it
+-- number f of record i, both counted from 0: all that reads a table reads it by this
 unfoldable pub field : List ℤ → ℕ → ℕ → ℤ
 field t i f = getD t (i * 8 + f) (pos 0)
 

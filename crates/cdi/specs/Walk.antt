@@ -88,10 +88,11 @@ variables a (stand k i n ∷ ss) = record { kind = k; number = i; address = a; s
 
 -- ── segments, the first of which has record i ──
 
--- "A segment sets it to its origin."
+-- the steps of its data elements
 unfoldable pub segmentSteps : ℕ → Segment → List Step
 segmentSteps i g = steps (i + 1) (g .items)
 
+-- "A segment sets it to its origin": whether they keep the addresses from there on
 unfoldable pub segmentKeeps : ℕ → Segment → Bool
 segmentKeeps i g = keeps (pos (g .origin)) (segmentSteps i g)
 
@@ -99,7 +100,7 @@ segmentKeeps i g = keeps (pos (g .origin)) (segmentSteps i g)
 unfoldable pub afterSegment : ℕ → Segment → ℕ
 afterSegment i g = i + 1 + records (g .items)
 
--- "record, space, address, size and kind"
+-- what is told of a variable: its record, space, address, size and kind
 pub record Found : Type 0 where
   pub number : ℕ
   pub space : ℕ

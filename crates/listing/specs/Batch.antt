@@ -4,7 +4,7 @@ use Prim.Native.Nat.{ℕ, _*_, _/_}
 use lib.ListN.{length, take, drop}
 use Rattle.cdi.specs.Walk.{Found}
 
--- five numbers for each variable: "record, space, address, size and kind"
+-- five numbers for each variable: its record, space, address, size and kind
 unfoldable pub numbersOf : List Found → List ℕ
 numbersOf [] = []
 numbersOf (f ∷ fs) = f .number ∷ f .space ∷ f .address ∷ f .size ∷ f .kind ∷ numbersOf fs

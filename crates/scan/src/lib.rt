@@ -1,5 +1,5 @@
-// Bytes by place: one byte, a word, two byte strings compared, and the span of a class of bytes. Past the end stands 0, which is no byte
-// of any class and of no word.
+// Bytes by place: one byte, a word, two byte strings compared, and the span of a class of bytes. Past the end stands 0, which no
+// content has.
 
 ghost use mathlib.Core.Path.{_≡_};
 ghost use Prim.Native.Nat.{_≤_};

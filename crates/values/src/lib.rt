@@ -8,7 +8,7 @@ ghost use Rattle.cdi.specs.Text.{zeroFrom};
 ghost use Rattle.cdi.specs.Values.{bytesOf, valueOf as numberOf, complement, uncomplement, padded};
 ghost use Rattle.values.specs.Held.{wholeOf, Plain, zeroAt};
 
-// A whole number; zero is not negative.
+// A whole number: its sign and its magnitude. What is read here never says that zero is negative.
 pub struct Whole {
     pub negative: bool,
     pub magnitude: u64,
