@@ -1,0 +1,228 @@
+-- The steps to the page, of one call after another: planning, then locating, listing, writing or reading with the table that it left.
+use mathlib.Core.Path.{_≡_, refl, sym, ap, _∙_}
+use mathlib.Core.List.{List, [], _∷_, _++_}
+use mathlib.Core.Bool.{true}
+use mathlib.Core.Option.{some}
+use mathlib.Core.Logic.{_⊎_, inl, inr, ⊎-elim}
+use Prim.Native.Nat.{ℕ, zero, suc, _+_, _*_, _-_, _/_, _≤_, _<_, min}
+use native.Mathlib.Omega.{arith}
+use lib.IntN.{ℤ}
+use lib.ListN.{length, take, drop, getD, length-take, length-drop}
+use lib.Seq.{drop-at, getD-take, getD-drop}
+use Rattle.scan.proofs.Tests.{lt-or-le}
+use Rattle.cdi.specs.Words.{given}
+use Rattle.cdi.specs.Faults.{fault, accepted, refused}
+use Rattle.cdi.specs.Text.{content}
+use Rattle.cdi.specs.Tree.{end, tree}
+use Rattle.cdi.specs.Walk.{Segment, Found, walk, total}
+use Rattle.cdi.specs.Table.{recordsOf, tableOf, sameTable}
+use Rattle.cdi.specs.Plans.{placeOf, isPlan, segmentsOf, variableOf, locating}
+use Rattle.cdi.specs.Planning.{Description, describe, cut, described, planned, placed, tableAfter}
+use Rattle.cdi.specs.Access.{Setting, contentAt, exact, settingIn, settingOf, firstCause, writeCauses, stored, startIn, written, windowAfter, read}
+use Rattle.cdi.proofs.Quiet.{impossible}
+use Rattle.cdi.proofs.Signs.{number-same}
+use Rattle.cdi.proofs.PlanOf.{length-table}
+use Rattle.cdi.proofs.Room.{fits-table}
+use Rattle.cdi.proofs.Promises.{table-is-plan, table-decodes, table-locates, nth-is, nth-none, count-is}
+use Rattle.cdi.proofs.Back.{Passed, passed, lies, good-text}
+use Rattle.plan_stages.specs.declared.Planned.{Planned}
+use Rattle.plan_stages.specs.declared.Planned.the-variants.{Accepted}
+use Rattle.plan_stages.specs.Outlines.{answerOf}
+use Rattle.plan.proofs.Promises.{told, Faultless, Told, accepted-faultless, records-in-front}
+use Rattle.locate.specs.Answers.{toldOf}
+use Rattle.locate.specs.declared.Located.{Located}
+use Rattle.locate.specs.declared.Located.the-variants.{NoVariable}
+use Rattle.locate.proofs.Once.{one-case}
+use Rattle.listing.specs.Batch.{numbersOf, batch, listed}
+use Rattle.maps.specs.Matches.{wantedOf}
+use Rattle.maps.specs.declared.Wanted.{Wanted}
+use Rattle.maps.specs.declared.Wanted.the-variants.{Number, Event, Text}
+use Rattle.access_kinds.specs.Told.{windowOf}
+use Rattle.access_writing.specs.Told.{writtenOf}
+use Rattle.access_writing.specs.declared.Written.{Written}
+use Rattle.access_writing.specs.declared.Written.the-variants as write
+use Rattle.access_reading.specs.Told.{readingOf, ReadAt}
+use Rattle.access_reading.specs.declared.Reading.{Reading}
+use Rattle.access_reading.specs.declared.Reading.the-variants as reading
+use Rattle.access.specs.Told.{startFor}
+use Rattle.access.proofs.Once.{fetch-once}
+use Rattle.access.proofs.Promises as access
+use Rattle.promises.proofs.Terms.{variableAt, numbersAt, Sound, echo}
+use Rattle.promises.proofs.Steps.{counted-described}
+
+same-itself : (t : List ℤ) → sameTable t t ≡ true
+unfolding sameTable
+same-itself [] = refl
+same-itself (x ∷ t) = rw (number-same x) (same-itself t)
+
+-- ── batches ──
+
+numbers-at : (fs : List Found) (rest : List ℕ) (j : ℕ) (o : Found) → j < length fs → take 5 (drop (j * 5) (numbersOf fs ++ rest)) ≡ numbersAt (getD fs j o)
+unfolding numbersOf
+numbers-at [] rest j o l = absurd (omega arith)
+numbers-at (f ∷ fs) rest zero o l = refl
+numbers-at (f ∷ fs) rest (suc j) o l =
+    let e : suc j * 5 ≡ suc (suc (suc (suc (suc (j * 5))))) = omega arith in
+    rw e (numbers-at fs rest j o (omega arith))
+
+length-numbers : (fs : List Found) → length (numbersOf fs) ≡ length fs * 5
+unfolding numbersOf
+length-numbers [] = refl
+length-numbers (f ∷ fs) = omega (arith, length-numbers fs)
+
+in-batch : (vs : List Found) (k : ℕ) (o : List ℕ) (j : ℕ) (f : Found) → j < length o / 5 → getD (batch vs k o) j f ≡ getD vs (k + j) f
+unfolding batch
+in-batch vs k o j f l = getD-take (length o / 5) (drop k vs) j f l ∙ getD-drop k vs j f
+
+module _ (b : List ℕ) (t : List ℤ) {r : Planned} (answer : answerOf r ≡ planned b t) {n v : ℕ} (e : r ≡ Accepted n v) (c : List ℕ) (ends : content b ≡ some c) where
+  same-text : accepted-faultless b t answer e .text ≡ c
+  same-text = let z = accepted-faultless b t answer e .faultless .ends in cc
+
+  pub no-fault : Faultless b t c
+  no-fault = rw same-text at (accepted-faultless b t answer e .faultless)
+
+  pub records-are : n ≡ recordsOf (told c)
+  records-are = accepted-faultless b t answer e .records ∙ ap (λ (x : List ℕ). recordsOf (told x)) same-text
+
+  variables-are : v ≡ total (told c)
+  variables-are = accepted-faultless b t answer e .variables ∙ ap (λ (x : List ℕ). total (told x)) same-text
+
+  pub count-of-walk : v ≡ length (walk (told c))
+  count-of-walk = variables-are ∙ sym (count-is (told c))
+
+  abbrev d : Description
+  d = describe (tree (cut c)) (tree (cut c))
+
+  pub described-is : described b ≡ accepted d
+  described-is =
+      let f = no-fault in
+      counted-described b {c = c} ((((((f .ends, f .allowed, f .opens), f .formed), f .ruled), f .inside), f .counted))
+
+  module _ {u : List ℤ} (after : u ≡ tableAfter b t) where
+    abbrev pub plan : List ℤ
+    plan = take (8 * n) u
+
+    pub plan-is : plan ≡ tableOf (told c)
+    plan-is = records-in-front b t answer e after ∙ ap (λ (x : List ℕ). tableOf (told x)) same-text
+
+    pub rest-is : drop (8 * n) u ≡ drop (8 * n) t
+    unfolding placed
+    rest-is =
+        let l : length (tableOf (told c)) ≡ 8 * n = length-table (told c) ∙ ap (λ k. 8 * k) (sym records-are) in
+        ap (drop (8 * n)) (after ∙ fits-table b t d described-is (no-fault .roomy))
+        ∙ drop-at (tableOf (told c)) (drop (length (tableOf (told c))) t) (8 * n) l
+        ∙ ap (λ k. drop k t) l
+
+    -- variable k, as the table and the text describe it
+    module _ (k : ℕ) (o : Found) where
+      abbrev pub entry : Found
+      entry = getD (walk (told c)) k o
+
+      abbrev pub setting : Setting
+      setting = record { variable = entry; content = given (contentAt (placeOf (tableOf (told c)) (entry .number)) (d .nodes)) end (λ k. k) }
+
+      pub setting-is : k < v → settingOf b plan k ≡ accepted setting
+      unfolding settingOf exact settingIn
+      setting-is h = rw (described-is, plan-is, same-itself (tableOf (told c)), nth-is (told c) k o (omega (arith, variables-are)))
+
+      pub no-setting : v ≤ k → settingOf b plan k ≡ refused (fault 21 0)
+      unfolding settingOf exact settingIn
+      no-setting h = rw (described-is, plan-is, same-itself (tableOf (told c)), nth-none (told c) k (omega (arith, variables-are)))
+
+      -- where there is a setting, k is below the count
+      pub found-below : (s : Setting) → settingOf b plan k ≡ accepted s → k < v
+      found-below s q = ⊎-elim (λ l. l) (λ l. let z = no-setting l in impossible (cc)) (lt-or-le k v)
+
+    -- ── locating ──
+
+    same : (k : ℕ) → locating plan k ≡ variableOf (told c) k
+    same k = ap (λ (x : List ℤ). locating x k) plan-is ∙ table-locates b d described-is k
+
+    module _ (k : ℕ) (q : Located) (is : toldOf q ≡ locating plan k) where
+      pub located-is : (o : Found) → k < v → q ≡ variableAt (getD (walk (told c)) k o)
+      unfolding toldOf
+      located-is o h = one-case q _ (is ∙ same k ∙ nth-is (told c) k o (omega (arith, variables-are)))
+
+      pub not-located-is : v ≤ k → q ≡ NoVariable
+      unfolding toldOf
+      not-located-is h = one-case q NoVariable (is ∙ same k ∙ nth-none (told c) k (omega (arith, variables-are)))
+
+    -- ── listing ──
+
+    pub passes-test : isPlan plan ≡ true
+    passes-test = ap isPlan plan-is ∙ table-is-plan b d described-is
+
+    walk-is : walk (segmentsOf plan) ≡ walk (told c)
+    walk-is = ap (λ (x : List ℤ). walk (segmentsOf x)) plan-is ∙ ap walk (table-decodes b d described-is)
+
+    module _ (k : ℕ) (o : List ℕ) {m : ℕ} (counts : m ≡ length (batch (walk (segmentsOf plan)) k o)) where
+      count-is-batch : m ≡ length (batch (walk (told c)) k o)
+      count-is-batch = counts ∙ ap (λ (x : List Found). length (batch x k o)) walk-is
+
+      pub listed-count : m ≡ min (length o / 5) (v - k)
+      unfolding batch
+      listed-count =
+          count-is-batch ∙ length-take (length o / 5) (drop k (walk (told c)))
+          ∙ ap (min (length o / 5)) (length-drop k (walk (told c)) ∙ ap (λ x. x - k) (sym count-of-walk))
+
+      module _ {p : List ℕ} (fills : p ≡ listed (walk (segmentsOf plan)) k o) where
+        slice-is : p ≡ listed (walk (told c)) k o
+        slice-is = fills ∙ ap (λ (x : List Found). listed x k o) walk-is
+
+        pub listed-entry : (j : ℕ) (f : Found) → j < m → take 5 (drop (j * 5) p) ≡ numbersAt (getD (walk (told c)) (k + j) f)
+        unfolding listed
+        listed-entry j f l =
+            ap (λ x. take 5 (drop (j * 5) x)) slice-is
+            ∙ numbers-at (batch (walk (told c)) k o) _ j f (omega (arith, count-is-batch))
+            ∙ ap numbersAt (in-batch (walk (told c)) k o j f (omega (arith, listed-count)))
+
+        pub listed-rest : drop (m * 5) p ≡ drop (m * 5) o
+        unfolding listed
+        listed-rest =
+            let fs = batch (walk (told c)) k o in
+            ap (drop (m * 5)) slice-is
+            ∙ drop-at (numbersOf fs) _ (m * 5) (length-numbers fs ∙ ap (λ x. x * 5) (sym count-is-batch))
+            ∙ ap (λ x. drop (x * 5) o) (sym count-is-batch)
+
+    -- ── writing and reading ──
+
+    module _ (k space first : ℕ) (bytes : List ℕ) (x : Wanted) (text : List ℕ) {s : Written} {new : List ℕ}
+        (said : writtenOf s ≡ written b plan k (windowOf space first bytes) (wantedOf x text)) (left : new ≡ windowAfter b plan k (windowOf space first bytes) (wantedOf x text))
+        (ok : s ≡ write.Accepted) (o : Found) where
+      abbrev f : Found
+      f = getD (walk (told c)) k o
+
+      pub written-below : k < v
+      written-below = access.variable-found b plan k space first bytes (wantedOf x text) said left ok (λ z q. found-below k o z q)
+
+      abbrev its : Setting
+      its = setting k o
+
+      found : settingOf b plan k ≡ accepted its
+      found = setting-is k o written-below
+
+      causes : firstCause (writeCauses (windowOf space first bytes) (wantedOf x text) its) ≡ accepted tt
+      unfolding written writtenOf
+      causes = let z : written b plan k (windowOf space first bytes) (wantedOf x text) ≡ accepted tt = sym said ∙ ap writtenOf ok in rw found at z
+
+      all-passed : Passed (windowOf space first bytes) (wantedOf x text) its
+      all-passed = passed _ _ _ causes
+
+      pub lies-inside : (space ≡ f .space) × (first ≤ f .address) × (f .address + f .size ≤ first + length bytes)
+      lies-inside = let l = lies (windowOf space first bytes) f (all-passed .inside) in (l .space, l .low, l .high)
+
+      pub stored-is : take (f .size) (drop (f .address - first) new) ≡ stored (f .size) (wantedOf x text)
+      unfolding startIn
+      stored-is = access.value-stored b plan k space first bytes (wantedOf x text) said left ok its found
+
+      pub long-as-before : length new ≡ length bytes
+      long-as-before = access.length-kept b plan k space first bytes (wantedOf x text) said left ok its found
+
+      pub others-kept : (i z : ℕ) → (i < f .address - first) ⊎ (f .address - first + f .size ≤ i) → getD new i z ≡ getD bytes i z
+      unfolding startIn
+      others-kept i z (inl l) = access.before-kept b plan k space first bytes (wantedOf x text) said left ok its found i z l
+      others-kept i z (inr l) = access.behind-kept b plan k space first bytes (wantedOf x text) said left ok its found i z l
+
+      start-is : startFor b plan k first ≡ f .address - first
+      unfolding startFor
+      start-is = rw (found, startFor)

@@ -1,0 +1,106 @@
+-- The words of the page: why a text is refused, what the locator and a slice say of a variable, what is read of a value that was written.
+use mathlib.Core.Path.{_≡_}
+use mathlib.Core.List.{List, [], _∷_}
+use mathlib.Core.Bool.{true, false}
+use mathlib.Core.Option.{none, some}
+use mathlib.Core.Logic.{_⊎_}
+use Prim.Native.Nat.{ℕ, _+_, _*_, _^_, _≤_, _<_, min}
+use lib.IntN.{ℤ}
+use lib.ListN.{length}
+use Rattle.cdi.specs.Words.{begins}
+use Rattle.cdi.specs.Faults.{Fault, fault, least}
+use Rattle.cdi.specs.Text.{content, badCharacter, firstLine}
+use Rattle.cdi.specs.Markup.{reading, markupFaults}
+use Rattle.cdi.specs.Tree.{tree}
+use Rattle.cdi.specs.Rules.{elementFaults}
+use Rattle.cdi.specs.Walk.{Found, total}
+use Rattle.cdi.specs.Table.{recordsOf}
+use Rattle.cdi.specs.Planning.{describe, cut, leaving}
+use Rattle.plan.proofs.Promises.{told}
+use Rattle.locate.specs.declared.Located.{Located}
+use Rattle.locate.specs.declared.Located.the-variants.{Variable}
+use Rattle.maps.specs.declared.Wanted.{Wanted}
+use Rattle.maps.specs.declared.Wanted.the-variants.{Number, Event, Text}
+use Rattle.access_reading.specs.declared.Reading.{Reading}
+use Rattle.access_reading.specs.declared.Reading.the-variants as reading
+
+-- ── "Stages: 1; 2; 3; 4 to 7; 8 to 10; 11; 12; 13. The earliest stage speaks." ──
+
+-- f is one of these faults
+unfoldable pub Among : Fault → List Fault → Type 0
+Among f [] = ⊥
+Among f (g ∷ gs) = (f ≡ g) ⊎ Among f gs
+
+-- the faults of stages 4 to 7, and of stages 8 to 10
+abbrev pub ofMarkup : List ℕ → List Fault
+ofMarkup c = markupFaults (length c) (reading [] 0) (cut c)
+
+abbrev pub ofElements : List ℕ → List Fault
+ofElements c = elementFaults (tree (cut c))
+
+-- the place of the root
+abbrev pub rootOf : List ℕ → ℕ
+rootOf c = describe (tree (cut c)) (tree (cut c)) .root
+
+-- b is a text with content c, and stages 1 to 3 have no fault
+abbrev pub Opened : List ℕ → List ℕ → Type 0
+Opened b c = (content b ≡ some c) × (badCharacter c ≡ none) × (begins firstLine c ≡ true)
+
+-- nor have 4 to 7
+abbrev pub Formed : List ℕ → List ℕ → Type 0
+Formed b c = Opened b c × (ofMarkup c ≡ [])
+
+-- nor have 8 to 10
+abbrev pub Ruled : List ℕ → List ℕ → Type 0
+Ruled b c = Formed b c × (ofElements c ≡ [])
+
+-- nor has 11
+abbrev pub Kept : List ℕ → List ℕ → Type 0
+Kept b c = Ruled b c × (leaving 0 (told c) ≡ none)
+
+-- nor has 12
+abbrev pub Counted : List ℕ → List ℕ → Type 0
+Counted b c = Kept b c × (total (told c) ≤ 1000000)
+
+-- why planning refuses text b and table t with number m and place p
+pub data Cause (b : List ℕ) (t : List ℤ) (m p : ℕ) : Type 0 where
+  -- 1: no zero stands in time
+  endless : content b ≡ none → m ≡ 1 → p ≡ min (length b) 65536 → Cause b t m p
+  -- 2: the first character that isn't allowed
+  character : {c : List ℕ} → content b ≡ some c → badCharacter c ≡ some p → m ≡ 2 → Cause b t m p
+  -- 3: another first line
+  line : {c : List ℕ} → content b ≡ some c → badCharacter c ≡ none → begins firstLine c ≡ false → m ≡ 3 → p ≡ 0 → Cause b t m p
+  -- 4 to 7: the least fault of the markup
+  markup : {c : List ℕ} → Opened b c → least (ofMarkup c) ≡ some (fault m p) → Cause b t m p
+  -- 8 to 10: the least fault against the table of elements
+  rule : {c : List ℕ} → Formed b c → least (ofElements c) ≡ some (fault m p) → Cause b t m p
+  -- 11: the first segment whose addresses leave 0 to 2^32
+  address : {c : List ℕ} → Ruled b c → leaving 0 (told c) ≡ some (fault m p) → Cause b t m p
+  -- 12: too many variables
+  count : {c : List ℕ} → Kept b c → 1000000 < total (told c) → m ≡ 12 → p ≡ rootOf c → Cause b t m p
+  -- 13: too short a table
+  room : {c : List ℕ} → Counted b c → length t < 8 * recordsOf (told c) → m ≡ 13 → p ≡ 0 → Cause b t m p
+
+-- ── "record, space, address, size and kind" ──
+
+-- the locator's answer for a variable
+abbrev pub variableAt : Found → Located
+variableAt f = Variable (f .number) (f .space) (f .address) (f .size) (f .kind)
+
+-- its numbers in a slice
+abbrev pub numbersAt : Found → List ℕ
+numbersAt f = f .number ∷ f .space ∷ f .address ∷ f .size ∷ f .kind ∷ []
+
+-- ── a value that comes in, and is read back ──
+
+-- a zero that comes in isn't negative, and an event ID has 64 bits
+unfoldable pub Sound : Wanted → Type 0
+Sound (Number b m) = b ≡ true → 0 < m
+Sound (Event v) = v < 2 ^ 64
+Sound Text = Unit
+
+-- the answer of reading such a value, or the text s beside it, that begins at this place of the window: it could be written again
+unfoldable pub echo : ℕ → Wanted → List ℕ → Reading
+echo at (Number b m) s = reading.Integer b m true
+echo at (Event v) s = reading.Event v true
+echo at Text s = reading.Text at (at + length s) true
