@@ -8,23 +8,23 @@ use Prim.Native.Nat.{ℕ, zero, suc, _+_, _*_, _-_, _/_, _≤_, _<_, min}
 use native.Mathlib.Omega.{arith}
 use lib.IntN.{ℤ}
 use lib.ListN.{length, take, drop, getD, length-take, length-drop}
-use lib.Seq.{drop-at, getD-take, getD-drop}
+use lib.Seq.{take-take, take-append-seam, drop-at, getD-take, getD-drop}
 use Rattle.scan.proofs.Tests.{lt-or-le}
 use Rattle.cdi.specs.Words.{given}
 use Rattle.cdi.specs.Faults.{fault, accepted, refused}
 use Rattle.cdi.specs.Text.{content}
 use Rattle.cdi.specs.Tree.{end, tree}
 use Rattle.cdi.specs.Walk.{Segment, Found, walk, total}
-use Rattle.cdi.specs.Table.{recordsOf, tableOf, sameTable}
+use Rattle.cdi.specs.Table.{recordsOf, tableOf}
 use Rattle.cdi.specs.Plans.{placeOf, isPlan, segmentsOf, variableOf, locating}
 use Rattle.cdi.specs.Planning.{Description, describe, cut, described, planned, placed, tableAfter}
-use Rattle.cdi.specs.Access.{Setting, contentAt, exact, settingIn, settingOf, firstCause, writeCauses, stored, startIn, written, windowAfter, read}
+use Rattle.cdi.specs.Access.{Setting, contentAt, exact, settingIn, settingOf, string, isGoodText, firstCause, writeCauses, stored, startIn, written, windowAfter, read}
+use Rattle.cdi.specs.Values.{padded}
 use Rattle.cdi.proofs.Quiet.{impossible}
-use Rattle.cdi.proofs.Signs.{number-same}
 use Rattle.cdi.proofs.PlanOf.{length-table}
 use Rattle.cdi.proofs.Room.{fits-table}
 use Rattle.cdi.proofs.Promises.{table-is-plan, table-decodes, table-locates, nth-is, nth-none, count-is}
-use Rattle.cdi.proofs.Back.{Passed, passed, lies, good-text}
+use Rattle.cdi.proofs.Back.{SixtyFour, Passed, passed, lies, good-text}
 use Rattle.plan_stages.specs.declared.Planned.{Planned}
 use Rattle.plan_stages.specs.declared.Planned.the-variants.{Accepted}
 use Rattle.plan_stages.specs.Outlines.{answerOf}
@@ -48,12 +48,8 @@ use Rattle.access.specs.Told.{startFor}
 use Rattle.access.proofs.Once.{fetch-once}
 use Rattle.access.proofs.Promises as access
 use Rattle.promises.proofs.Terms.{variableAt, numbersAt, Sound, echo}
+use Rattle.promises.proofs.Accesses.{same-itself}
 use Rattle.promises.proofs.Steps.{counted-described}
-
-same-itself : (t : List ℤ) → sameTable t t ≡ true
-unfolding sameTable
-same-itself [] = refl
-same-itself (x ∷ t) = rw (number-same x) (same-itself t)
 
 -- ── batches ──
 
@@ -73,6 +69,23 @@ length-numbers (f ∷ fs) = omega (arith, length-numbers fs)
 in-batch : (vs : List Found) (k : ℕ) (o : List ℕ) (j : ℕ) (f : Found) → j < length o / 5 → getD (batch vs k o) j f ≡ getD vs (k + j) f
 unfolding batch
 in-batch vs k o j f l = getD-take (length o / 5) (drop k vs) j f l ∙ getD-drop k vs j f
+
+-- ── what is read of a value ──
+
+text-in : (size at : ℕ) (text new : List ℕ) → length text ≤ size → take size (drop at new) ≡ padded size text → take (at + length text - at) (drop at new) ≡ text
+unfolding padded
+text-in size at text new h q =
+    let e : at + length text - at ≡ length text = omega arith in
+    rw e (sym (take-take (length text) size (drop at new) h) ∙ ap (take (length text)) q ∙ take-append-seam text _)
+
+echoed : (at : ℕ) (new : List ℕ) (q : Reading) (x : Wanted) (text : List ℕ) → Sound x → readingOf new q ≡ accepted (record { value = wantedOf x text; writable = true }) → ReadAt at new q
+    → (x ≡ Text → (take (at + length text - at) (drop at new) ≡ text) × (at + length text ≤ length new)) → q ≡ echo at x text
+unfolding Sound readingOf wantedOf ReadAt echo
+echoed at new q (Number b m) text h e r k = fetch-once at new _ q (reading.Integer b m true) e refl r h
+echoed at new q (Event i) text h e r k = fetch-once at new _ q (reading.Event i true) e refl r tt
+echoed at new q Text text h e r k =
+    let z = k refl in
+    fetch-once at new _ q (reading.Text at (at + length text) true) e (ap (λ y. accepted (record { value = string y; writable = true })) (z .0)) r (refl, omega arith, z .1)
 
 module _ (b : List ℕ) (t : List ℤ) {r : Planned} (answer : answerOf r ≡ planned b t) {n v : ℕ} (e : r ≡ Accepted n v) (c : List ℕ) (ends : content b ≡ some c) where
   same-text : accepted-faultless b t answer e .text ≡ c
@@ -226,3 +239,28 @@ module _ (b : List ℕ) (t : List ℤ) {r : Planned} (answer : answerOf r ≡ pl
       start-is : startFor b plan k first ≡ f .address - first
       unfolding startFor
       start-is = rw (found, startFor)
+
+      module _ (q : Reading) (is : readingOf new q ≡ read b plan k (windowOf space first new)) where
+        sixty-four : Sound x → SixtyFour (wantedOf x text)
+        unfolding Sound SixtyFour wantedOf
+        sixty-four = by x
+          where
+            by : (y : Wanted) → Sound y → SixtyFour (wantedOf y text)
+            by (Number b m) h = tt
+            by (Event e) h = h
+            by Text h = tt
+
+        pub read-value : Sound x → readingOf new q ≡ accepted (record { value = wantedOf x text; writable = true })
+        read-value h = access.reads-back b plan k space first bytes (wantedOf x text) said left ok (sixty-four h) q is
+
+        text-stands : x ≡ Text → (take (f .address - first + length text - (f .address - first)) (drop (f .address - first) new) ≡ text) × (f .address - first + length text ≤ length new)
+        unfolding wantedOf stored
+        text-stands y =
+            let g : isGoodText its (wantedOf Text text) ≡ true = rw y at (all-passed .text) in
+            let l = good-text its text g .short in
+            let i = lies-inside in
+            let p : take (f .size) (drop (f .address - first) new) ≡ stored (f .size) (wantedOf Text text) = rw y at stored-is in
+            (text-in (f .size) (f .address - first) text new (omega arith) p, omega (arith, i .1, i .2, long-as-before))
+
+        pub read-echo : Sound x → ReadAt (startFor b plan k first) new q → q ≡ echo (f .address - first) x text
+        read-echo h r = echoed (f .address - first) new q x text h (read-value h) (rw start-is at r) text-stands

@@ -1,6 +1,7 @@
--- The page, the causes that it speaks of, and the steps to it.
+-- The page, the words that it speaks in, and the steps to it.
 pub mod Terms
 pub mod Numbers
 pub mod Steps
+pub mod Accesses
 pub mod Calls
 pub mod Page

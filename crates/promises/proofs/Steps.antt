@@ -18,13 +18,24 @@ use Rattle.cdi.specs.Markup.{reading}
 use Rattle.cdi.specs.Tree.{tree}
 use Rattle.cdi.specs.Walk.{total}
 use Rattle.cdi.specs.Table.{recordsOf}
-use Rattle.cdi.specs.Planning.{describe, ending, characters, opening, cut, markup, elements, leaving, addresses, counting, described, room, planned, tableAfter}
+use Rattle.cdi.specs.Planning.{describe, ending, characters, opening, cut, markup, elements, leaving, addresses, counting, described, countsOf, room, planned, tableAfter}
 use Rattle.cdi.specs.Access.{Window, Value, settingOf, written, windowAfter, read}
 use Rattle.cdi.proofs.Quiet.{impossible, quiet}
 use Rattle.cdi.proofs.Least as order
+use Rattle.cdi.proofs.Room.{refuses}
 use Rattle.cdi.proofs.Zero.{NoZero, described-alike}
 use Rattle.access.specs.Told.{startFor}
 use Rattle.plan.proofs.Promises.{told, Faultless, faultless-accepted}
+use Rattle.plan_stages.specs.Outlines.{answerOf}
+use Rattle.plan_stages.specs.declared.Planned.{Planned}
+use Rattle.plan_stages.specs.declared.Planned.the-variants.{Accepted, Refused}
+use Rattle.plan.proofs.Once.{plan-once}
+use Rattle.access_kinds.specs.Told.{windowOf}
+use Rattle.access_writing.specs.Told.{writtenOf}
+use Rattle.access_writing.specs.declared.Written.{Written}
+use Rattle.access_reading.specs.Told.{readingOf, ReadAt}
+use Rattle.access_reading.specs.declared.Reading.{Reading}
+use Rattle.access.proofs.Once.{write-once, read-once}
 use Rattle.promises.proofs.Terms as why
 use Rattle.promises.proofs.Terms.{Among, ofMarkup, ofElements, rootOf, Opened, Formed, Ruled, Kept, Counted, Cause}
 use Rattle.promises.proofs.Numbers.{From, nothing, then, of-markup, of-elements, of-address}
@@ -148,6 +159,20 @@ module _ (a b : List ℕ) (e : described a ≡ described b) where
   unfolding startFor
   start-same t n first = rw (setting-same t n, startFor)
 
+  -- on the code's answers
+  pub plans-alike : (t : List ℤ) (r q : Planned) (u o : List ℤ) → answerOf r ≡ planned a t → answerOf q ≡ planned b t → u ≡ tableAfter a t → o ≡ tableAfter b t → (r ≡ q) × (u ≡ o)
+  plans-alike t r q u o f g i j = (plan-once b t r q (f ∙ planned-same t) g, i ∙ table-same t ∙ sym j)
+
+  module _ (t : List ℤ) (n space first : ℕ) (bytes : List ℕ) where
+    abbrev w : Window
+    w = windowOf space first bytes
+
+    pub writes-alike : (v : Value) (r q : Written) (u o : List ℕ) → writtenOf r ≡ written a t n w v → writtenOf q ≡ written b t n w v → u ≡ windowAfter a t n w v → o ≡ windowAfter b t n w v → (r ≡ q) × (u ≡ o)
+    writes-alike v r q u o f g i j = (write-once b t n w v r q (f ∙ written-same t n w v) g, i ∙ window-same t n w v ∙ sym j)
+
+    pub reads-alike : (r q : Reading) → readingOf bytes r ≡ read a t n w → readingOf bytes q ≡ read b t n w → ReadAt (startFor a t n first) bytes r → ReadAt (startFor b t n first) bytes q → r ≡ q
+    reads-alike r q f g i j = read-once b t n space first bytes r q (f ∙ read-same t n w) g (rw (start-same t n first) at i) j
+
 -- ── the cause of a refusal ──
 
 module _ (b : List ℕ) where
@@ -263,3 +288,32 @@ cause-of b t {m} {p} e = by (verdict b t)
         let z = cause-refused b t k in
         let y : f ≡ fault m p = cc in
         rw y at k
+
+-- ── the code's answers of planning ──
+
+pub late-answer : (c : List ℕ) → NoZero c → 65535 < length c → (x : List ℕ) (t : List ℤ) (r : Planned) → answerOf r ≡ planned (c ++ 0 ∷ x) t → r ≡ Refused 1 65536
+unfolding answerOf
+late-answer c h l x t r e = plan-once (c ++ 0 ∷ x) t r (Refused 1 65536) e (sym (late-planned c h l x t))
+
+module _ (b : List ℕ) (t : List ℤ) {r : Planned} (answer : answerOf r ≡ planned b t) where
+  pub refused-cause : {m p : ℕ} → r ≡ Refused m p → Cause b t m p
+  unfolding answerOf
+  refused-cause e = cause-of b t (sym answer ∙ ap answerOf e)
+
+  pub cause-answer : {m p : ℕ} → Cause b t m p → r ≡ Refused m p
+  unfolding answerOf
+  cause-answer {m} {p} k = plan-once b t r (Refused m p) answer (sym (cause-refused b t k))
+
+  pub faultless-answer : (c : List ℕ) → Faultless b t c → r ≡ Accepted (recordsOf (told c)) (total (told c))
+  unfolding answerOf countsOf
+  faultless-answer c f = plan-once b t r _ answer (sym (faultless-accepted b t c f))
+
+-- stages 1 to 12 have numbers from 1 to 12
+pub described-number : (b : List ℕ) (f : Fault) → described b ≡ refused f → (1 ≤ f .number) × (f .number ≤ 12)
+described-number b f e =
+    let k : Cause b [] (f .number) (f .place) = cause-of b [] (refuses b [] f e) in
+    let n = cause-number k in
+    (n .0, ⊎-elim (λ l. last k (omega arith)) (λ l. l) (lt-or-le 12 (f .number)))
+  where
+    last : Cause b [] (f .number) (f .place) → f .number ≡ 13 → f .number ≤ 12
+    last k h = let z = thirteen k h in let y = counted-described b {c = z .0} (z .1) in impossible (cc)

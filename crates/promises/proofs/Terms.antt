@@ -8,14 +8,15 @@ use Prim.Native.Nat.{ℕ, _+_, _*_, _^_, _≤_, _<_, min}
 use lib.IntN.{ℤ}
 use lib.ListN.{length}
 use Rattle.cdi.specs.Words.{begins}
-use Rattle.cdi.specs.Faults.{Fault, fault, least}
+use Rattle.cdi.specs.Faults.{Fault, fault, least, accepted, refused}
 use Rattle.cdi.specs.Text.{content, badCharacter, firstLine}
 use Rattle.cdi.specs.Markup.{reading, markupFaults}
 use Rattle.cdi.specs.Tree.{tree}
 use Rattle.cdi.specs.Rules.{elementFaults}
-use Rattle.cdi.specs.Walk.{Found, total}
-use Rattle.cdi.specs.Table.{recordsOf}
-use Rattle.cdi.specs.Planning.{describe, cut, leaving}
+use Rattle.cdi.specs.Walk.{Found, walk, total}
+use Rattle.cdi.specs.Table.{recordsOf, tableOf}
+use Rattle.cdi.specs.Planning.{Description, describe, cut, leaving, described}
+use Rattle.cdi.specs.Access.{Setting, settingOf}
 use Rattle.plan.proofs.Promises.{told}
 use Rattle.locate.specs.declared.Located.{Located}
 use Rattle.locate.specs.declared.Located.the-variants.{Variable}
@@ -80,6 +81,19 @@ pub data Cause (b : List ℕ) (t : List ℤ) (m p : ℕ) : Type 0 where
   count : {c : List ℕ} → Kept b c → 1000000 < total (told c) → m ≡ 12 → p ≡ rootOf c → Cause b t m p
   -- 13: too short a table
   room : {c : List ℕ} → Counted b c → length t < 8 * recordsOf (told c) → m ≡ 13 → p ≡ 0 → Cause b t m p
+
+-- ── "first 1 to 12, then 20 (the table isn't exactly the one planned from this text), 21" ──
+
+-- why writing or reading variable n with text b and table t is refused with number m and place p; `own` are the causes of a variable that is there
+pub data AccessCause (b : List ℕ) (t : List ℤ) (n : ℕ) (own : Setting → Type 0) (m p : ℕ) : Type 0 where
+  -- 1 to 12: the text's own refusal
+  text : described b ≡ refused (fault m p) → AccessCause b t n own m p
+  -- 20: another table
+  table : {d : Description} → described b ≡ accepted d → (t ≡ tableOf (d .segments) → ⊥) → m ≡ 20 → p ≡ 0 → AccessCause b t n own m p
+  -- 21: no such variable
+  number : {d : Description} → described b ≡ accepted d → t ≡ tableOf (d .segments) → length (walk (d .segments)) ≤ n → m ≡ 21 → p ≡ 0 → AccessCause b t n own m p
+  -- 22 to 28
+  variable : {s : Setting} → settingOf b t n ≡ accepted s → own s → AccessCause b t n own m p
 
 -- ── "record, space, address, size and kind" ──
 
