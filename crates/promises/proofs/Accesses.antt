@@ -3,7 +3,7 @@ use mathlib.Core.Path.{_≡_, refl, sym, ap, _∙_}
 use mathlib.Core.List.{List, [], _∷_}
 use mathlib.Core.Bool.{Bool, true, false, cond, not, false≢true}
 use mathlib.Core.Option.{Option, none, some}
-use mathlib.Core.Logic.{_⊎_, inl, inr, ⊎-elim}
+use mathlib.Core.Logic.{_⊎_, inl, inr, ⊎-elim, _↔_}
 use Prim.Native.Nat.{ℕ, _≤_, _<_}
 use native.Mathlib.Omega.{arith}
 use borrow.Author.Tests.{eq-eqb}
@@ -219,33 +219,42 @@ passes-all w v s p = rw (p .allowed, eq-eqb _ _ (p .kind), p .bounds, p .text, p
 
 module _ (b : List ℕ) (t : List ℤ) (n : ℕ) (w : Window) (v : Value) (s : Written) (said : writtenOf s ≡ written b t n w v) where
   module _ {m p : ℕ} where
-    pub write-cause : s ≡ write.Refused m p → AccessCause b t n (λ x. firstCause (writeCauses w v x) ≡ refused (fault m p)) m p
+    write-cause : s ≡ write.Refused m p → AccessCause b t n (λ x. firstCause (writeCauses w v x) ≡ refused (fault m p)) m p
     unfolding writtenOf written
     write-cause e = access-cause b t n (λ x. firstCause (writeCauses w v x)) m p (sym said ∙ ap writtenOf e)
 
-    pub write-refused : AccessCause b t n (λ x. firstCause (writeCauses w v x) ≡ refused (fault m p)) m p → s ≡ write.Refused m p
+    write-refused : AccessCause b t n (λ x. firstCause (writeCauses w v x) ≡ refused (fault m p)) m p → s ≡ write.Refused m p
     unfolding writtenOf written
     write-refused k = write-once b t n w v s (write.Refused m p) said (sym (access-refused b t n (λ x. firstCause (writeCauses w v x)) m p k))
+
+    pub write-refused-exactly : s ≡ write.Refused m p ↔ AccessCause b t n (λ x. firstCause (writeCauses w v x) ≡ refused (fault m p)) m p
+    write-refused-exactly = (write-cause, write-refused)
 
     pub write-number : s ≡ write.Refused m p → ((1 ≤ m) × (m ≤ 12)) ⊎ ((20 ≤ m) × (m ≤ 27))
     write-number e = access-number 27 (omega arith) (λ x o. write-own w v x o) (write-cause e)
 
-  pub write-passed : s ≡ write.Accepted → (x : Setting) × (settingOf b t n ≡ accepted x) × Passed w v x
+  write-passed : s ≡ write.Accepted → (x : Setting) × (settingOf b t n ≡ accepted x) × Passed w v x
   unfolding writtenOf written
   write-passed e = through (settingOf b t n) (λ x. firstCause (writeCauses w v x)) tt (sym said ∙ ap writtenOf e) λ x found causes. (x, found, passed w v x causes)
 
-  pub write-accepted : (x : Setting) → settingOf b t n ≡ accepted x → Passed w v x → s ≡ write.Accepted
+  write-accepted : (x : Setting) → settingOf b t n ≡ accepted x → Passed w v x → s ≡ write.Accepted
   unfolding writtenOf written
   write-accepted x found all = write-once b t n w v s write.Accepted said (let z : written b t n w v ≡ accepted tt = rw found (passes-all w v x all) in sym z)
 
+  pub write-accepted-exactly : s ≡ write.Accepted ↔ ((x : Setting) × (settingOf b t n ≡ accepted x) × Passed w v x)
+  write-accepted-exactly = (write-passed, λ x. write-accepted (x .0) (x .1) (x .2))
+
 module _ (b : List ℕ) (t : List ℤ) (n space first : ℕ) (bytes : List ℕ) (q : Read.Reading) (is : readingOf bytes q ≡ read b t n (windowOf space first bytes)) (at : ReadAt (startFor b t n first) bytes q) {m p : ℕ} where
-  pub read-cause : q ≡ reading.Refused m p → AccessCause b t n (λ x. readFrom (windowOf space first bytes) x ≡ refused (fault m p)) m p
+  read-cause : q ≡ reading.Refused m p → AccessCause b t n (λ x. readFrom (windowOf space first bytes) x ≡ refused (fault m p)) m p
   unfolding readingOf read
   read-cause e = access-cause b t n (readFrom (windowOf space first bytes)) m p (sym is ∙ ap (readingOf bytes) e)
 
-  pub read-refused : AccessCause b t n (λ x. readFrom (windowOf space first bytes) x ≡ refused (fault m p)) m p → q ≡ reading.Refused m p
+  read-refused : AccessCause b t n (λ x. readFrom (windowOf space first bytes) x ≡ refused (fault m p)) m p → q ≡ reading.Refused m p
   unfolding readingOf read ReadAt
   read-refused k = read-once b t n space first bytes q (reading.Refused m p) is (sym (access-refused b t n (readFrom (windowOf space first bytes)) m p k)) at tt
+
+  pub read-refused-exactly : q ≡ reading.Refused m p ↔ AccessCause b t n (λ x. readFrom (windowOf space first bytes) x ≡ refused (fault m p)) m p
+  read-refused-exactly = (read-cause, read-refused)
 
   pub read-number : q ≡ reading.Refused m p → ((1 ≤ m) × (m ≤ 12)) ⊎ ((20 ≤ m) × (m ≤ 28))
   read-number e = access-number 28 (omega arith) (λ x o. read-own (windowOf space first bytes) x o) (read-cause e)
@@ -253,7 +262,7 @@ module _ (b : List ℕ) (t : List ℤ) (n space first : ℕ) (bytes : List ℕ) 
 -- ── locating in any table ──
 
 module _ (t : List ℤ) (n : ℕ) (q : Located) (is : toldOf q ≡ locating t n) where
-  pub not-a-plan : isPlan t ≡ false → q ≡ NotAPlan
+  not-a-plan : isPlan t ≡ false → q ≡ NotAPlan
   unfolding toldOf locating
   not-a-plan h = let z : locating t n ≡ refused (fault 20 0) = rw h in one-case q NotAPlan (is ∙ z)
 
@@ -262,10 +271,15 @@ module _ (t : List ℤ) (n : ℕ) (q : Located) (is : toldOf q ≡ locating t n)
     unfolding locating
     by-walk = rw h
 
-    pub beyond-count : length (walk (segmentsOf t)) ≤ n → q ≡ NoVariable
+    beyond-count : length (walk (segmentsOf t)) ≤ n → q ≡ NoVariable
     unfolding toldOf
     beyond-count l = one-case q NoVariable (is ∙ by-walk ∙ nth-none (segmentsOf t) n (omega (arith, count-is (segmentsOf t))))
 
-    pub below-count : (o : Found) → n < length (walk (segmentsOf t)) → q ≡ variableAt (getD (walk (segmentsOf t)) n o)
+    below-count : n < length (walk (segmentsOf t)) → (o : Found) → q ≡ variableAt (getD (walk (segmentsOf t)) n o)
     unfolding toldOf
-    below-count o l = one-case q _ (is ∙ by-walk ∙ nth-is (segmentsOf t) n o (omega (arith, count-is (segmentsOf t))))
+    below-count l o = one-case q _ (is ∙ by-walk ∙ nth-is (segmentsOf t) n o (omega (arith, count-is (segmentsOf t))))
+
+  pub locates : (isPlan t ≡ false → q ≡ NotAPlan)
+      × (isPlan t ≡ true → length (walk (segmentsOf t)) ≤ n → q ≡ NoVariable)
+      × (isPlan t ≡ true → n < length (walk (segmentsOf t)) → (o : Found) → q ≡ variableAt (getD (walk (segmentsOf t)) n o))
+  locates = (not-a-plan, beyond-count, below-count)

@@ -91,34 +91,34 @@ module _ (b : List ℕ) (t : List ℤ) {r : Planned} (answer : answerOf r ≡ pl
   same-text : accepted-faultless b t answer e .text ≡ c
   same-text = let z = accepted-faultless b t answer e .faultless .ends in cc
 
-  pub no-fault : Faultless b t c
+  no-fault : Faultless b t c
   no-fault = rw same-text at (accepted-faultless b t answer e .faultless)
 
-  pub records-are : n ≡ recordsOf (told c)
+  records-are : n ≡ recordsOf (told c)
   records-are = accepted-faultless b t answer e .records ∙ ap (λ (x : List ℕ). recordsOf (told x)) same-text
 
   variables-are : v ≡ total (told c)
   variables-are = accepted-faultless b t answer e .variables ∙ ap (λ (x : List ℕ). total (told x)) same-text
 
-  pub count-of-walk : v ≡ length (walk (told c))
+  count-of-walk : v ≡ length (walk (told c))
   count-of-walk = variables-are ∙ sym (count-is (told c))
 
   abbrev d : Description
   d = describe (tree (cut c)) (tree (cut c))
 
-  pub described-is : described b ≡ accepted d
+  described-is : described b ≡ accepted d
   described-is =
       let f = no-fault in
       counted-described b {c = c} ((((((f .ends, f .allowed, f .opens), f .formed), f .ruled), f .inside), f .counted))
 
   module _ {u : List ℤ} (after : u ≡ tableAfter b t) where
-    abbrev pub plan : List ℤ
+    abbrev plan : List ℤ
     plan = take (8 * n) u
 
-    pub plan-is : plan ≡ tableOf (told c)
+    plan-is : plan ≡ tableOf (told c)
     plan-is = records-in-front b t answer e after ∙ ap (λ (x : List ℕ). tableOf (told x)) same-text
 
-    pub rest-is : drop (8 * n) u ≡ drop (8 * n) t
+    rest-is : drop (8 * n) u ≡ drop (8 * n) t
     unfolding placed
     rest-is =
         let l : length (tableOf (told c)) ≡ 8 * n = length-table (told c) ∙ ap (λ k. 8 * k) (sym records-are) in
@@ -126,24 +126,30 @@ module _ (b : List ℕ) (t : List ℤ) {r : Planned} (answer : answerOf r ≡ pl
         ∙ drop-at (tableOf (told c)) (drop (length (tableOf (told c))) t) (8 * n) l
         ∙ ap (λ k. drop k t) l
 
+    passes-test : isPlan plan ≡ true
+    passes-test = ap isPlan plan-is ∙ table-is-plan b d described-is
+
+    pub made : (plan ≡ tableOf (told c)) × (drop (8 * n) u ≡ drop (8 * n) t) × (n ≡ recordsOf (told c)) × (v ≡ length (walk (told c))) × (isPlan plan ≡ true)
+    made = (plan-is, rest-is, records-are, count-of-walk, passes-test)
+
     -- variable k, as the table and the text describe it
     module _ (k : ℕ) (o : Found) where
-      abbrev pub entry : Found
+      abbrev entry : Found
       entry = getD (walk (told c)) k o
 
-      abbrev pub setting : Setting
+      abbrev setting : Setting
       setting = record { variable = entry; content = given (contentAt (placeOf (tableOf (told c)) (entry .number)) (d .nodes)) end (λ k. k) }
 
-      pub setting-is : k < v → settingOf b plan k ≡ accepted setting
+      setting-is : k < v → settingOf b plan k ≡ accepted setting
       unfolding settingOf exact settingIn
       setting-is h = rw (described-is, plan-is, same-itself (tableOf (told c)), nth-is (told c) k o (omega (arith, variables-are)))
 
-      pub no-setting : v ≤ k → settingOf b plan k ≡ refused (fault 21 0)
+      no-setting : v ≤ k → settingOf b plan k ≡ refused (fault 21 0)
       unfolding settingOf exact settingIn
       no-setting h = rw (described-is, plan-is, same-itself (tableOf (told c)), nth-none (told c) k (omega (arith, variables-are)))
 
       -- where there is a setting, k is below the count
-      pub found-below : (s : Setting) → settingOf b plan k ≡ accepted s → k < v
+      found-below : (s : Setting) → settingOf b plan k ≡ accepted s → k < v
       found-below s q = ⊎-elim (λ l. l) (λ l. let z = no-setting l in impossible (cc)) (lt-or-le k v)
 
     -- ── locating ──
@@ -152,18 +158,18 @@ module _ (b : List ℕ) (t : List ℤ) {r : Planned} (answer : answerOf r ≡ pl
     same k = ap (λ (x : List ℤ). locating x k) plan-is ∙ table-locates b d described-is k
 
     module _ (k : ℕ) (q : Located) (is : toldOf q ≡ locating plan k) where
-      pub located-is : (o : Found) → k < v → q ≡ variableAt (getD (walk (told c)) k o)
+      located-is : k < v → (o : Found) → q ≡ variableAt (getD (walk (told c)) k o)
       unfolding toldOf
-      located-is o h = one-case q _ (is ∙ same k ∙ nth-is (told c) k o (omega (arith, variables-are)))
+      located-is h o = one-case q _ (is ∙ same k ∙ nth-is (told c) k o (omega (arith, variables-are)))
 
-      pub not-located-is : v ≤ k → q ≡ NoVariable
+      not-located-is : v ≤ k → q ≡ NoVariable
       unfolding toldOf
       not-located-is h = one-case q NoVariable (is ∙ same k ∙ nth-none (told c) k (omega (arith, variables-are)))
 
-    -- ── listing ──
+      pub located : (k < v → (o : Found) → q ≡ variableAt (getD (walk (told c)) k o)) × (v ≤ k → q ≡ NoVariable)
+      located = (located-is, not-located-is)
 
-    pub passes-test : isPlan plan ≡ true
-    passes-test = ap isPlan plan-is ∙ table-is-plan b d described-is
+    -- ── listing ──
 
     walk-is : walk (segmentsOf plan) ≡ walk (told c)
     walk-is = ap (λ (x : List ℤ). walk (segmentsOf x)) plan-is ∙ ap walk (table-decodes b d described-is)
@@ -172,7 +178,7 @@ module _ (b : List ℕ) (t : List ℤ) {r : Planned} (answer : answerOf r ≡ pl
       count-is-batch : m ≡ length (batch (walk (told c)) k o)
       count-is-batch = counts ∙ ap (λ (x : List Found). length (batch x k o)) walk-is
 
-      pub listed-count : m ≡ min (length o / 5) (v - k)
+      listed-count : m ≡ min (length o / 5) (v - k)
       unfolding batch
       listed-count =
           count-is-batch ∙ length-take (length o / 5) (drop k (walk (told c)))
@@ -182,20 +188,23 @@ module _ (b : List ℕ) (t : List ℤ) {r : Planned} (answer : answerOf r ≡ pl
         slice-is : p ≡ listed (walk (told c)) k o
         slice-is = fills ∙ ap (λ (x : List Found). listed x k o) walk-is
 
-        pub listed-entry : (j : ℕ) (f : Found) → j < m → take 5 (drop (j * 5) p) ≡ numbersAt (getD (walk (told c)) (k + j) f)
+        listed-entry : (j : ℕ) → j < m → (f : Found) → take 5 (drop (j * 5) p) ≡ numbersAt (getD (walk (told c)) (k + j) f)
         unfolding listed
-        listed-entry j f l =
+        listed-entry j l f =
             ap (λ x. take 5 (drop (j * 5) x)) slice-is
             ∙ numbers-at (batch (walk (told c)) k o) _ j f (omega (arith, count-is-batch))
             ∙ ap numbersAt (in-batch (walk (told c)) k o j f (omega (arith, listed-count)))
 
-        pub listed-rest : drop (m * 5) p ≡ drop (m * 5) o
+        listed-rest : drop (m * 5) p ≡ drop (m * 5) o
         unfolding listed
         listed-rest =
             let fs = batch (walk (told c)) k o in
             ap (drop (m * 5)) slice-is
             ∙ drop-at (numbersOf fs) _ (m * 5) (length-numbers fs ∙ ap (λ x. x * 5) (sym count-is-batch))
             ∙ ap (λ x. drop (x * 5) o) (sym count-is-batch)
+
+        pub lists : (m ≡ min (length o / 5) (v - k)) × ((j : ℕ) → j < m → (f : Found) → take 5 (drop (j * 5) p) ≡ numbersAt (getD (walk (told c)) (k + j) f)) × (drop (m * 5) p ≡ drop (m * 5) o)
+        lists = (listed-count, listed-entry, listed-rest)
 
     -- ── writing and reading ──
 
@@ -205,7 +214,7 @@ module _ (b : List ℕ) (t : List ℤ) {r : Planned} (answer : answerOf r ≡ pl
       abbrev f : Found
       f = getD (walk (told c)) k o
 
-      pub written-below : k < v
+      written-below : k < v
       written-below = access.variable-found b plan k space first bytes (wantedOf x text) said left ok (λ z q. found-below k o z q)
 
       abbrev its : Setting
@@ -221,20 +230,23 @@ module _ (b : List ℕ) (t : List ℤ) {r : Planned} (answer : answerOf r ≡ pl
       all-passed : Passed (windowOf space first bytes) (wantedOf x text) its
       all-passed = passed _ _ _ causes
 
-      pub lies-inside : (space ≡ f .space) × (first ≤ f .address) × (f .address + f .size ≤ first + length bytes)
-      lies-inside = let l = lies (windowOf space first bytes) f (all-passed .inside) in (l .space, l .low, l .high)
+      pub lies-inside : (k < v) × (space ≡ f .space) × (first ≤ f .address) × (f .address + f .size ≤ first + length bytes)
+      lies-inside = let l = lies (windowOf space first bytes) f (all-passed .inside) in (written-below, l .space, l .low, l .high)
 
       pub stored-is : take (f .size) (drop (f .address - first) new) ≡ stored (f .size) (wantedOf x text)
       unfolding startIn
       stored-is = access.value-stored b plan k space first bytes (wantedOf x text) said left ok its found
 
-      pub long-as-before : length new ≡ length bytes
+      long-as-before : length new ≡ length bytes
       long-as-before = access.length-kept b plan k space first bytes (wantedOf x text) said left ok its found
 
-      pub others-kept : (i z : ℕ) → (i < f .address - first) ⊎ (f .address - first + f .size ≤ i) → getD new i z ≡ getD bytes i z
+      others-kept : (i z : ℕ) → (i < f .address - first) ⊎ (f .address - first + f .size ≤ i) → getD new i z ≡ getD bytes i z
       unfolding startIn
       others-kept i z (inl l) = access.before-kept b plan k space first bytes (wantedOf x text) said left ok its found i z l
       others-kept i z (inr l) = access.behind-kept b plan k space first bytes (wantedOf x text) said left ok its found i z l
+
+      pub only-its-bytes : (length new ≡ length bytes) × ((i z : ℕ) → (i < f .address - first) ⊎ (f .address - first + f .size ≤ i) → getD new i z ≡ getD bytes i z)
+      only-its-bytes = (long-as-before, others-kept)
 
       start-is : startFor b plan k first ≡ f .address - first
       unfolding startFor
@@ -250,7 +262,7 @@ module _ (b : List ℕ) (t : List ℤ) {r : Planned} (answer : answerOf r ≡ pl
             by (Event e) h = h
             by Text h = tt
 
-        pub read-value : Sound x → readingOf new q ≡ accepted (record { value = wantedOf x text; writable = true })
+        read-value : Sound x → readingOf new q ≡ accepted (record { value = wantedOf x text; writable = true })
         read-value h = access.reads-back b plan k space first bytes (wantedOf x text) said left ok (sixty-four h) q is
 
         text-stands : x ≡ Text → (take (f .address - first + length text - (f .address - first)) (drop (f .address - first) new) ≡ text) × (f .address - first + length text ≤ length new)
@@ -260,7 +272,7 @@ module _ (b : List ℕ) (t : List ℤ) {r : Planned} (answer : answerOf r ≡ pl
             let l = good-text its text g .short in
             let i = lies-inside in
             let p : take (f .size) (drop (f .address - first) new) ≡ stored (f .size) (wantedOf Text text) = rw y at stored-is in
-            (text-in (f .size) (f .address - first) text new (omega arith) p, omega (arith, i .1, i .2, long-as-before))
+            (text-in (f .size) (f .address - first) text new (omega arith) p, omega (arith, i .2, i .3, long-as-before))
 
-        pub read-echo : Sound x → ReadAt (startFor b plan k first) new q → q ≡ echo (f .address - first) x text
-        read-echo h r = echoed (f .address - first) new q x text h (read-value h) (rw start-is at r) text-stands
+        pub read-back : Sound x → ReadAt (startFor b plan k first) new q → (q ≡ echo (f .address - first) x text) × (readingOf new q ≡ accepted (record { value = wantedOf x text; writable = true }))
+        read-back h r = (echoed (f .address - first) new q x text h (read-value h) (rw start-is at r) text-stands, read-value h)

@@ -3,7 +3,7 @@ use mathlib.Core.Path.{_≡_, refl, sym, ap, _∙_}
 use mathlib.Core.List.{List, [], _∷_, _++_}
 use mathlib.Core.Bool.{Bool, true, false, cond}
 use mathlib.Core.Option.{Option, none, some}
-use mathlib.Core.Logic.{_⊎_, inl, inr, ⊎-elim}
+use mathlib.Core.Logic.{_⊎_, inl, inr, ⊎-elim, _↔_}
 use Prim.Native.Nat.{ℕ, zero, suc, _+_, _*_, _≤_, _<_, min}
 use native.Mathlib.Omega.{arith}
 use borrow.Author.Tests.{ne-eqb, le-leb, lt-leb}
@@ -25,7 +25,7 @@ use Rattle.cdi.proofs.Least as order
 use Rattle.cdi.proofs.Room.{refuses}
 use Rattle.cdi.proofs.Zero.{NoZero, described-alike}
 use Rattle.access.specs.Told.{startFor}
-use Rattle.plan.proofs.Promises.{told, Faultless, faultless-accepted}
+use Rattle.plan.proofs.Promises.{told, Faultless, Told, faultless-accepted, accepted-faultless}
 use Rattle.plan_stages.specs.Outlines.{answerOf}
 use Rattle.plan_stages.specs.declared.Planned.{Planned}
 use Rattle.plan_stages.specs.declared.Planned.the-variants.{Accepted, Refused}
@@ -86,13 +86,13 @@ numbered [] f nothing a = absurd a
 numbered (g ∷ fs) f (then l h x) (inl e) = rw e (l, h)
 numbered (g ∷ fs) f (then l h x) (inr a) = numbered fs f x a
 
-pub markup-number : (c : List ℕ) (f : Fault) → least (ofMarkup c) ≡ some f → (4 ≤ f .number) × (f .number ≤ 7)
+markup-number : (c : List ℕ) (f : Fault) → least (ofMarkup c) ≡ some f → (4 ≤ f .number) × (f .number ≤ 7)
 markup-number c f e = numbered (ofMarkup c) f (of-markup (length c) (reading [] 0) (cut c)) (least-among (ofMarkup c) f e)
 
-pub rule-number : (c : List ℕ) (f : Fault) → least (ofElements c) ≡ some f → (8 ≤ f .number) × (f .number ≤ 10)
+rule-number : (c : List ℕ) (f : Fault) → least (ofElements c) ≡ some f → (8 ≤ f .number) × (f .number ≤ 10)
 rule-number c f e = numbered (ofElements c) f (of-elements (tree (cut c))) (least-among (ofElements c) f e)
 
-pub address-number : (c : List ℕ) (f : Fault) → leaving 0 (told c) ≡ some f → f .number ≡ 11
+address-number : (c : List ℕ) (f : Fault) → leaving 0 (told c) ≡ some f → f .number ≡ 11
 address-number c f e = of-address 0 (told c) f e
 
 -- ── texts that agree up to and including a first zero ──
@@ -268,7 +268,7 @@ module _ {b : List ℕ} {t : List ℤ} {m p : ℕ} where
   cause-number (why.count o l q s) = (omega arith, omega arith)
   cause-number (why.room k l q s) = (omega arith, omega arith)
 
-  pub thirteen : Cause b t m p → m ≡ 13 → (c : List ℕ) × Counted b c × (length t < 8 * recordsOf (told c))
+  pub thirteen : Cause b t m p → m ≡ 13 → (c : List ℕ) × Counted b c × (length t < 8 * recordsOf (told c)) × (p ≡ 0)
   thirteen (why.endless e q s) h = absurd (omega arith)
   thirteen (why.character e f q) h = absurd (omega arith)
   thirteen (why.line e f g q s) h = absurd (omega arith)
@@ -276,7 +276,7 @@ module _ {b : List ℕ} {t : List ℤ} {m p : ℕ} where
   thirteen (why.rule {c = c} o e) h = let n = rule-number c (fault m p) e in absurd (omega arith)
   thirteen (why.address {c = c} o e) h = let n = address-number c (fault m p) e in absurd (omega arith)
   thirteen (why.count o l q s) h = absurd (omega arith)
-  thirteen (why.room {c = c} k l q s) h = (c, k, l)
+  thirteen (why.room {c = c} k l q s) h = (c, k, l, s)
 
 -- a refusal has a cause
 pub cause-of : (b : List ℕ) (t : List ℤ) {m p : ℕ} → planned b t ≡ refused (fault m p) → Cause b t m p
@@ -296,17 +296,32 @@ unfolding answerOf
 late-answer c h l x t r e = plan-once (c ++ 0 ∷ x) t r (Refused 1 65536) e (sym (late-planned c h l x t))
 
 module _ (b : List ℕ) (t : List ℤ) {r : Planned} (answer : answerOf r ≡ planned b t) where
-  pub refused-cause : {m p : ℕ} → r ≡ Refused m p → Cause b t m p
+  refused-cause : {m p : ℕ} → r ≡ Refused m p → Cause b t m p
   unfolding answerOf
   refused-cause e = cause-of b t (sym answer ∙ ap answerOf e)
 
-  pub cause-answer : {m p : ℕ} → Cause b t m p → r ≡ Refused m p
+  cause-answer : {m p : ℕ} → Cause b t m p → r ≡ Refused m p
   unfolding answerOf
   cause-answer {m} {p} k = plan-once b t r (Refused m p) answer (sym (cause-refused b t k))
 
-  pub faultless-answer : (c : List ℕ) → Faultless b t c → r ≡ Accepted (recordsOf (told c)) (total (told c))
+  pub refused-exactly : {m p : ℕ} → r ≡ Refused m p ↔ Cause b t m p
+  refused-exactly = (refused-cause, cause-answer)
+
+  pub refused-number : {m p : ℕ} → r ≡ Refused m p → (1 ≤ m) × (m ≤ 13)
+  refused-number e = cause-number (refused-cause e)
+
+  pub short-exactly : {p : ℕ} → r ≡ Refused 13 p ↔ ((c : List ℕ) × Counted b c × (length t < 8 * recordsOf (told c)) × (p ≡ 0))
+  short-exactly = ((λ e. thirteen (refused-cause e) refl), (λ x. cause-answer (why.room (x .1) (x .2) refl (x .3))))
+
+  faultless-answer : (c : List ℕ) → Faultless b t c → r ≡ Accepted (recordsOf (told c)) (total (told c))
   unfolding answerOf countsOf
   faultless-answer c f = plan-once b t r _ answer (sym (faultless-accepted b t c f))
+
+  told-answer : {n v : ℕ} → Told b t n v → r ≡ Accepted n v
+  told-answer x = faultless-answer (x .text) (x .faultless) ∙ sym (rw (x .records, x .variables))
+
+  pub accepted-exactly : {n v : ℕ} → r ≡ Accepted n v ↔ Told b t n v
+  accepted-exactly = ((λ e. accepted-faultless b t answer e), told-answer)
 
 -- stages 1 to 12 have numbers from 1 to 12
 pub described-number : (b : List ℕ) (f : Fault) → described b ≡ refused f → (1 ≤ f .number) × (f .number ≤ 12)
@@ -317,3 +332,10 @@ described-number b f e =
   where
     last : Cause b [] (f .number) (f .place) → f .number ≡ 13 → f .number ≤ 12
     last k h = let z = thirteen k h in let y = counted-described b {c = z .0} (z .1) in impossible (cc)
+
+pub stage-numbers : (b c : List ℕ) (f : Fault)
+    → (described b ≡ refused f → (1 ≤ f .number) × (f .number ≤ 12))
+    × (least (ofMarkup c) ≡ some f → (4 ≤ f .number) × (f .number ≤ 7))
+    × (least (ofElements c) ≡ some f → (8 ≤ f .number) × (f .number ≤ 10))
+    × (leaving 0 (told c) ≡ some f → f .number ≡ 11)
+stage-numbers b c f = ((λ e. described-number b f e), (λ e. markup-number c f e), (λ e. rule-number c f e), (λ e. address-number c f e))

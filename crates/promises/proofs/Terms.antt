@@ -1,4 +1,5 @@
--- The words of the page: why a text is refused, what the locator and a slice say of a variable, what is read of a value that was written.
+-- The words of the page: those of the contracts, from where they stand; why a text is refused; what the locator and a slice say of a variable; what is read of a
+-- value that was written.
 use mathlib.Core.Path.{_≡_}
 use mathlib.Core.List.{List, [], _∷_}
 use mathlib.Core.Bool.{true, false}
@@ -8,22 +9,38 @@ use Prim.Native.Nat.{ℕ, _+_, _*_, _^_, _≤_, _<_, min}
 use lib.IntN.{ℤ}
 use lib.ListN.{length}
 use Rattle.cdi.specs.Words.{begins}
-use Rattle.cdi.specs.Faults.{Fault, fault, least, accepted, refused}
-use Rattle.cdi.specs.Text.{content, badCharacter, firstLine}
+use Rattle.cdi.specs.Text.{badCharacter, firstLine}
 use Rattle.cdi.specs.Markup.{reading, markupFaults}
 use Rattle.cdi.specs.Tree.{tree}
 use Rattle.cdi.specs.Rules.{elementFaults}
-use Rattle.cdi.specs.Walk.{Found, walk, total}
-use Rattle.cdi.specs.Table.{recordsOf, tableOf}
-use Rattle.cdi.specs.Planning.{Description, describe, cut, leaving, described}
-use Rattle.cdi.specs.Access.{Setting, settingOf}
-use Rattle.plan.proofs.Promises.{told}
-use Rattle.locate.specs.declared.Located.{Located}
+use Rattle.cdi.specs.Walk.{total}
+use Rattle.cdi.specs.Planning.{Description, describe, cut}
 use Rattle.locate.specs.declared.Located.the-variants.{Variable}
-use Rattle.maps.specs.declared.Wanted.{Wanted}
 use Rattle.maps.specs.declared.Wanted.the-variants.{Number, Event, Text}
-use Rattle.access_reading.specs.declared.Reading.{Reading}
 use Rattle.access_reading.specs.declared.Reading.the-variants as reading
+pub use Rattle.cdi.specs.Faults.{Fault, fault, before, least, accepted, refused}
+pub use Rattle.cdi.specs.Text.{content}
+pub use Rattle.cdi.specs.Walk.{Found, walk}
+pub use Rattle.cdi.specs.Table.{recordsOf, tableOf}
+pub use Rattle.cdi.specs.Plans.{isPlan, segmentsOf, locating}
+pub use Rattle.cdi.specs.Planning.{leaving, described, planned, tableAfter}
+pub use Rattle.cdi.specs.Access.{Value, Setting, settingOf, firstCause, writeCauses, readFrom, stored, written, windowAfter, read}
+pub use Rattle.cdi.proofs.Zero.{NoZero}
+pub use Rattle.cdi.proofs.Back.{Passed}
+pub use Rattle.plan_stages.specs.Outlines.{answerOf}
+pub use Rattle.plan_stages.specs.declared.Planned.{Planned}
+pub use Rattle.plan.proofs.Promises.{told, Told}
+pub use Rattle.locate.specs.Answers.{toldOf}
+pub use Rattle.locate.specs.declared.Located.{Located}
+pub use Rattle.listing.specs.Batch.{batch, listed}
+pub use Rattle.maps.specs.Matches.{wantedOf}
+pub use Rattle.maps.specs.declared.Wanted.{Wanted}
+pub use Rattle.access_kinds.specs.Told.{windowOf}
+pub use Rattle.access_writing.specs.Told.{writtenOf}
+pub use Rattle.access_writing.specs.declared.Written.{Written}
+pub use Rattle.access_reading.specs.Told.{readingOf, ReadAt}
+pub use Rattle.access_reading.specs.declared.Reading.{Reading}
+pub use Rattle.access.specs.Told.{startFor}
 
 -- ── "Stages: 1; 2; 3; 4 to 7; 8 to 10; 11; 12; 13. The earliest stage speaks." ──
 
