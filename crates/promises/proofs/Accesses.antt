@@ -15,7 +15,7 @@ use Rattle.cdi.specs.Words.{given}
 use Rattle.cdi.specs.Tree.{end}
 use Rattle.cdi.specs.Faults.{Fault, fault, Answer, accepted, refused, _andThen_, isAccepted}
 use Rattle.cdi.specs.Text.{zeroFrom, isUtf8}
-use Rattle.cdi.specs.Walk.{Found, walk, total}
+use Rattle.cdi.specs.Walk.{Found, walk}
 use Rattle.cdi.specs.Table.{tableOf, sameTable}
 use Rattle.cdi.specs.Plans.{placeOf, isPlan, segmentsOf, variableOf, locating}
 use Rattle.cdi.specs.Planning.{Description, described}

@@ -1,11 +1,13 @@
 -- The steps to the page, of one call after another: planning, then locating, listing, writing or reading with the table that it left.
 use mathlib.Core.Path.{_≡_, refl, sym, ap, _∙_}
 use mathlib.Core.List.{List, [], _∷_, _++_}
-use mathlib.Core.Bool.{true}
+use mathlib.Core.Bool.{Bool, true, false, _&&_}
 use mathlib.Core.Option.{some}
 use mathlib.Core.Logic.{_⊎_, inl, inr, ⊎-elim}
 use Prim.Native.Nat.{ℕ, zero, suc, _+_, _*_, _-_, _/_, _≤_, _<_, min}
 use native.Mathlib.Omega.{arith}
+use borrow.Author.Tests.{lt-ltb, ltb-true}
+use lib.Dec.{ltb}
 use lib.IntN.{ℤ}
 use lib.ListN.{length, take, drop, getD, length-take, length-drop}
 use lib.Seq.{take-take, take-append-seam, drop-at, getD-take, getD-drop}
@@ -14,12 +16,13 @@ use Rattle.cdi.specs.Words.{given}
 use Rattle.cdi.specs.Faults.{fault, accepted, refused}
 use Rattle.cdi.specs.Text.{content}
 use Rattle.cdi.specs.Tree.{end, tree}
-use Rattle.cdi.specs.Walk.{Segment, Found, walk, total}
+use Rattle.cdi.specs.Walk.{Found, walk, total}
 use Rattle.cdi.specs.Table.{recordsOf, tableOf}
 use Rattle.cdi.specs.Plans.{placeOf, isPlan, segmentsOf, variableOf, locating}
 use Rattle.cdi.specs.Planning.{Description, describe, cut, described, planned, placed, tableAfter}
-use Rattle.cdi.specs.Access.{Setting, contentAt, exact, settingIn, settingOf, string, isGoodText, firstCause, writeCauses, stored, startIn, written, windowAfter, read}
-use Rattle.cdi.specs.Values.{padded}
+use Rattle.cdi.specs.Access.{Setting, contentAt, exact, settingIn, settingOf, integer, string, isGoodText, firstCause, writeCauses, stored, startIn, written, windowAfter, read}
+use Rattle.cdi.specs.Values.{signed, padded}
+use Rattle.cdi.proofs.Tests.{both-right}
 use Rattle.cdi.proofs.Quiet.{impossible}
 use Rattle.cdi.proofs.PlanOf.{length-table}
 use Rattle.cdi.proofs.Room.{fits-table}
@@ -28,7 +31,7 @@ use Rattle.cdi.proofs.Back.{SixtyFour, Passed, passed, lies, good-text}
 use Rattle.plan_stages.specs.declared.Planned.{Planned}
 use Rattle.plan_stages.specs.declared.Planned.the-variants.{Accepted}
 use Rattle.plan_stages.specs.Outlines.{answerOf}
-use Rattle.plan.proofs.Promises.{told, Faultless, Told, accepted-faultless, records-in-front}
+use Rattle.plan.proofs.Promises.{told, Faultless, accepted-faultless, records-in-front}
 use Rattle.locate.specs.Answers.{toldOf}
 use Rattle.locate.specs.declared.Located.{Located}
 use Rattle.locate.specs.declared.Located.the-variants.{NoVariable}
@@ -47,7 +50,7 @@ use Rattle.access_reading.specs.declared.Reading.the-variants as reading
 use Rattle.access.specs.Told.{startFor}
 use Rattle.access.proofs.Once.{fetch-once}
 use Rattle.access.proofs.Promises as access
-use Rattle.promises.proofs.Terms.{variableAt, numbersAt, Sound, echo}
+use Rattle.promises.proofs.Terms.{variableAt, numbersAt, echo}
 use Rattle.promises.proofs.Accesses.{same-itself}
 use Rattle.promises.proofs.Steps.{counted-described}
 
@@ -78,12 +81,20 @@ text-in size at text new h q =
     let e : at + length text - at ≡ length text = omega arith in
     rw e (sym (take-take (length text) size (drop at new) h) ∙ ap (take (length text)) q ∙ take-append-seam text _)
 
-echoed : (at : ℕ) (new : List ℕ) (q : Reading) (x : Wanted) (text : List ℕ) → Sound x → readingOf new q ≡ accepted (record { value = wantedOf x text; writable = true }) → ReadAt at new q
+-- a zero has no sign
+sign-of : (b : Bool) (m : ℕ) → signed (b && ltb 0 m) m ≡ signed b m
+unfolding signed
+sign-of false m = refl
+sign-of true zero = refl
+sign-of true (suc m) = rw (lt-ltb 0 (suc m) (omega arith))
+
+echoed : (at : ℕ) (new : List ℕ) (q : Reading) (x : Wanted) (text : List ℕ) → readingOf new q ≡ accepted (record { value = wantedOf x text; writable = true }) → ReadAt at new q
     → (x ≡ Text → (take (at + length text - at) (drop at new) ≡ text) × (at + length text ≤ length new)) → q ≡ echo at x text
-unfolding Sound readingOf wantedOf ReadAt echo
-echoed at new q (Number b m) text h e r k = fetch-once at new _ q (reading.Integer b m true) e refl r h
-echoed at new q (Event i) text h e r k = fetch-once at new _ q (reading.Event i true) e refl r tt
-echoed at new q Text text h e r k =
+unfolding readingOf wantedOf ReadAt echo
+echoed at new q (Number b m) text e r k =
+    fetch-once at new _ q (reading.Integer (b && ltb 0 m) m true) e (ap (λ z. accepted (record { value = integer z; writable = true })) (sign-of b m)) r (λ s. ltb-true 0 m (both-right b (ltb 0 m) s))
+echoed at new q (Event i) text e r k = fetch-once at new _ q (reading.Event i true) e refl r tt
+echoed at new q Text text e r k =
     let z = k refl in
     fetch-once at new _ q (reading.Text at (at + length text) true) e (ap (λ y. accepted (record { value = string y; writable = true })) (z .0)) r (refl, omega arith, z .1)
 
@@ -253,17 +264,8 @@ module _ (b : List ℕ) (t : List ℤ) {r : Planned} (answer : answerOf r ≡ pl
       start-is = rw (found, startFor)
 
       module _ (q : Reading) (is : readingOf new q ≡ read b plan k (windowOf space first new)) where
-        sixty-four : Sound x → SixtyFour (wantedOf x text)
-        unfolding Sound SixtyFour wantedOf
-        sixty-four = by x
-          where
-            by : (y : Wanted) → Sound y → SixtyFour (wantedOf y text)
-            by (Number b m) h = tt
-            by (Event e) h = h
-            by Text h = tt
-
-        read-value : Sound x → readingOf new q ≡ accepted (record { value = wantedOf x text; writable = true })
-        read-value h = access.reads-back b plan k space first bytes (wantedOf x text) said left ok (sixty-four h) q is
+        read-value : SixtyFour (wantedOf x text) → readingOf new q ≡ accepted (record { value = wantedOf x text; writable = true })
+        read-value h = access.reads-back b plan k space first bytes (wantedOf x text) said left ok h q is
 
         text-stands : x ≡ Text → (take (f .address - first + length text - (f .address - first)) (drop (f .address - first) new) ≡ text) × (f .address - first + length text ≤ length new)
         unfolding wantedOf stored
@@ -274,5 +276,5 @@ module _ (b : List ℕ) (t : List ℤ) {r : Planned} (answer : answerOf r ≡ pl
             let p : take (f .size) (drop (f .address - first) new) ≡ stored (f .size) (wantedOf Text text) = rw y at stored-is in
             (text-in (f .size) (f .address - first) text new (omega arith) p, omega (arith, i .2, i .3, long-as-before))
 
-        pub read-back : Sound x → ReadAt (startFor b plan k first) new q → (q ≡ echo (f .address - first) x text) × (readingOf new q ≡ accepted (record { value = wantedOf x text; writable = true }))
-        read-back h r = (echoed (f .address - first) new q x text h (read-value h) (rw start-is at r) text-stands, read-value h)
+        pub read-back : SixtyFour (wantedOf x text) → ReadAt (startFor b plan k first) new q → (q ≡ echo (f .address - first) x text) × (readingOf new q ≡ accepted (record { value = wantedOf x text; writable = true }))
+        read-back h r = (echoed (f .address - first) new q x text (read-value h) (rw start-is at r) text-stands, read-value h)

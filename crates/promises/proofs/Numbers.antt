@@ -1,12 +1,11 @@
 -- Which numbers a stage's faults have: 4 to 7 of the markup, 8 to 10 against the table of elements, 11 of the addresses.
-use mathlib.Core.Path.{_≡_, refl}
+use mathlib.Core.Path.{_≡_}
 use mathlib.Core.List.{List, [], _∷_, _++_}
 use mathlib.Core.Bool.{Bool, true, false, cond, not, _&&_, _||_}
 use mathlib.Core.Option.{Option, none, some}
-use Prim.Native.Nat.{ℕ, _+_, _≤_}
+use Prim.Native.Nat.{ℕ, _≤_}
 use native.Mathlib.Omega.{arith}
 use lib.Dec.{eqb, ltb}
-use lib.ListN.{length}
 use lib.IntN.{ℤ}
 use Rattle.cdi.specs.Words.{given, any, among}
 use Rattle.cdi.specs.Faults.{Fault, fault, unless}

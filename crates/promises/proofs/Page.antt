@@ -10,9 +10,9 @@ use Prim.Native.Nat.{ℕ, _+_, _*_, _-_, _/_, _≤_, _<_, min}
 use lib.IntN.{ℤ}
 use lib.ListN.{length, take, drop, getD}
 use Rattle.promises.proofs.Terms.{Fault, fault, before, least, accepted, refused, content, Found, walk, recordsOf, tableOf, isPlan, segmentsOf, locating, leaving, described, planned, tableAfter}
-use Rattle.promises.proofs.Terms.{Value, Setting, settingOf, firstCause, writeCauses, readFrom, stored, written, windowAfter, read, NoZero, Passed, answerOf, Planned, told, Told, toldOf, Located}
+use Rattle.promises.proofs.Terms.{Value, Setting, settingOf, firstCause, writeCauses, readFrom, stored, written, windowAfter, read, NoZero, Passed, SixtyFour, answerOf, Planned, told, Told, toldOf, Located}
 use Rattle.promises.proofs.Terms.{batch, listed, wantedOf, Wanted, windowOf, writtenOf, Written, readingOf, ReadAt, Reading, startFor}
-use Rattle.promises.proofs.Terms.{Among, ofMarkup, ofElements, Counted, Cause, AccessCause, variableAt, numbersAt, Sound, echo}
+use Rattle.promises.proofs.Terms.{Among, ofMarkup, ofElements, Counted, Cause, AccessCause, variableAt, numbersAt, echo}
 use Rattle.plan_stages.specs.declared.Planned.the-variants.{Accepted, Refused}
 use Rattle.locate.specs.declared.Located.the-variants.{NotAPlan, NoVariable}
 use Rattle.access_writing.specs.declared.Written.the-variants as write
@@ -139,8 +139,8 @@ module _ (b : List ℕ) (t : List ℤ) {r : Planned} {u : List ℤ} (answer : an
     pub write-keeps-others : (length new ≡ length bytes) × ((i z : ℕ) → (i < f .address - first) ⊎ (f .address - first + f .size ≤ i) → getD new i z ≡ getD bytes i z)
     write-keeps-others = calls.only-its-bytes b t answer e c ends after k space first bytes x text said left ok o
 
-    -- Reading before any other write answers with that value, and that it could be written.
-    pub write-reads-back : (q : Reading) → readingOf new q ≡ read b plan k (windowOf space first new) → Sound x → ReadAt (startFor b plan k first) new q
+    -- Reading before any other write answers with that value, and that it could be written. (An event ID comes in with 64 bits.)
+    pub write-reads-back : (q : Reading) → readingOf new q ≡ read b plan k (windowOf space first new) → SixtyFour (wantedOf x text) → ReadAt (startFor b plan k first) new q
         → (q ≡ echo (f .address - first) x text) × (readingOf new q ≡ accepted (record { value = wantedOf x text; writable = true }))
     write-reads-back = calls.read-back b t answer e c ends after k space first bytes x text said left ok o
 

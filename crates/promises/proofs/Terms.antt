@@ -2,10 +2,11 @@
 -- value that was written.
 use mathlib.Core.Path.{_≡_}
 use mathlib.Core.List.{List, [], _∷_}
-use mathlib.Core.Bool.{true, false}
+use mathlib.Core.Bool.{true, false, _&&_}
 use mathlib.Core.Option.{none, some}
 use mathlib.Core.Logic.{_⊎_}
-use Prim.Native.Nat.{ℕ, _+_, _*_, _^_, _≤_, _<_, min}
+use Prim.Native.Nat.{ℕ, _+_, _*_, _≤_, _<_, min}
+use lib.Dec.{ltb}
 use lib.IntN.{ℤ}
 use lib.ListN.{length}
 use Rattle.cdi.specs.Words.{begins}
@@ -17,7 +18,7 @@ use Rattle.cdi.specs.Walk.{total}
 use Rattle.cdi.specs.Planning.{Description, describe, cut}
 use Rattle.locate.specs.declared.Located.the-variants.{Variable}
 use Rattle.maps.specs.declared.Wanted.the-variants.{Number, Event, Text}
-use Rattle.access_reading.specs.declared.Reading.the-variants as reading
+use Rattle.access_reading.specs.declared.Reading.the-variants as answers
 pub use Rattle.cdi.specs.Faults.{Fault, fault, before, least, accepted, refused}
 pub use Rattle.cdi.specs.Text.{content}
 pub use Rattle.cdi.specs.Walk.{Found, walk}
@@ -26,7 +27,7 @@ pub use Rattle.cdi.specs.Plans.{isPlan, segmentsOf, locating}
 pub use Rattle.cdi.specs.Planning.{leaving, described, planned, tableAfter}
 pub use Rattle.cdi.specs.Access.{Value, Setting, settingOf, firstCause, writeCauses, readFrom, stored, written, windowAfter, read}
 pub use Rattle.cdi.proofs.Zero.{NoZero}
-pub use Rattle.cdi.proofs.Back.{Passed}
+pub use Rattle.cdi.proofs.Back.{Passed, SixtyFour}
 pub use Rattle.plan_stages.specs.Outlines.{answerOf}
 pub use Rattle.plan_stages.specs.declared.Planned.{Planned}
 pub use Rattle.plan.proofs.Promises.{told, Told}
@@ -124,14 +125,9 @@ numbersAt f = f .number ∷ f .space ∷ f .address ∷ f .size ∷ f .kind ∷ 
 
 -- ── a value that comes in, and is read back ──
 
--- a zero that comes in isn't negative, and an event ID has 64 bits
-unfoldable pub Sound : Wanted → Type 0
-Sound (Number b m) = b ≡ true → 0 < m
-Sound (Event v) = v < 2 ^ 64
-Sound Text = Unit
-
--- the answer of reading such a value, or the text s beside it, that begins at this place of the window: it could be written again
+-- the answer of reading an integer, an event ID or the text s that was written and begins at this place of the window: zero isn't negative, and it could be written
+-- again
 unfoldable pub echo : ℕ → Wanted → List ℕ → Reading
-echo at (Number b m) s = reading.Integer b m true
-echo at (Event v) s = reading.Event v true
-echo at Text s = reading.Text at (at + length s) true
+echo at (Number b m) s = answers.Integer (b && ltb 0 m) m true
+echo at (Event v) s = answers.Event v true
+echo at Text s = answers.Text at (at + length s) true
