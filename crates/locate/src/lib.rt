@@ -68,7 +68,7 @@ pub fn find(table: &[i64], n: u64) -> Located
         if left < count {
             let origin = rise_at(table, i, START);
             let space = rise_at(table, i, EXTRA);
-            let found = find_in(table, i + 1, next, origin, left);
+            let found = find_in(&table, i + 1, next, origin, left);
             return told(table, space, found);
         }
         left = left - count;

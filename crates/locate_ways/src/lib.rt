@@ -131,11 +131,12 @@ fn packed(address: u64, i: usize) -> u64
 }
 
 // Variable `n` of the data elements from record `from` to before `end`, walked from `origin`: its record and its address, or `NOWHERE`. They are packed so that they
-// come back through all levels in a register.
-pub fn find_in(table: &[i64], from: usize, end: usize, origin: u64, n: u64) -> u64
-    requires { ⌜ (from ≤ end) × (end ≤ 4095) × (end * 8 ≤ length (now table)) × Site (now table) from end origin ⌝ }
-    ensures { λ r. ⌜ Finds (now (table .entry)) from end origin n r ⌝ }
+// come back through all levels in a register, and the slice is lent so that it goes down as it came, and is not copied for each level.
+pub fn find_in(lent: &&[i64], from: usize, end: usize, origin: u64, n: u64) -> u64
+    requires { ⌜ (from ≤ end) × (end ≤ 4095) × (end * 8 ≤ length (now (now lent))) × Site (now (now lent)) from end origin ⌝ }
+    ensures { λ r. ⌜ Finds (now (now (lent .entry))) from end origin n r ⌝ }
 {
+    let table = *lent;
     let mut i = from;
     let mut address = origin;
     let mut left = n;
@@ -149,7 +150,7 @@ pub fn find_in(table: &[i64], from: usize, end: usize, origin: u64, n: u64) -> u
                 let first = copy.start;
                 let number = copy.number;
                 let next = next_record(table, i, end);
-                return find_in(table, i + 1, next, first, number);
+                return find_in(lent, i + 1, next, first, number);
             }
             return packed(start, i);
         }

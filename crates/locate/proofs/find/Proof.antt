@@ -5,10 +5,10 @@ use Rattle.locate.proofs.find.Statement.{statement}
 use Rattle.locate.proofs.find.Tie as tie
 
 abbrev Inv-loop : tie.InvT-loop
-Inv-loop table n records i₀ left₀ i left = Passing table n records i left
+Inv-loop table₀ n table records i₀ left₀ i left = Passing table n records i left
 
 abbrev μ-loop : tie.MeasureT-loop
-μ-loop table n records i₀ left₀ i left = records - i
+μ-loop table₀ n table records i₀ left₀ i left = records - i
 
 loop-holds : tie.Need-loop-holds Inv-loop μ-loop
 loop-holds c = search passing
@@ -30,7 +30,7 @@ add-find-in c = search passing
 
 find-in-requires : tie.Need-find-in-requires Inv-loop μ-loop
 find-in-requires c κs =
-    let origin = c .before in
+    let origin = c .before .before in
     let inside = origin .before in
     let next = inside .before in
     let count = next .before in

@@ -15,20 +15,20 @@ use Rattle.locate_rows.proofs.rise_at.Reads as rise-at-reads
 use Rattle.locate_ways.proofs.+find_in.{statement}
 use Rattle.locate_ways.proofs.+find_in.Tie.{close}
 
-abbrev μ-find-in : Measures 1 find-in-kinds.ps ℕ
+abbrev μ-find-in : Measures 2 find-in-kinds.ps ℕ
 μ-find-in κs a = a .1 .1 .0 - a .1 .0
 
-abbrev find-in-at : ℕ → In 1 find-in-kinds.ps
-find-in-at t = and 1 find-in-kinds.ps (is 1 find-in-kinds.ps μ-find-in t) find-in.Pre
+abbrev find-in-at : ℕ → In 2 find-in-kinds.ps
+find-in-at t = and 2 find-in-kinds.ps (is 2 find-in-kinds.ps μ-find-in t) find-in.Pre
 
-abbrev find-in-below : ℕ → In 1 find-in-kinds.ps
-find-in-below t = and 1 find-in-kinds.ps (falls 1 find-in-kinds.ps _<_ μ-find-in t) find-in.Pre
+abbrev find-in-below : ℕ → In 2 find-in-kinds.ps
+find-in-below t = and 2 find-in-kinds.ps (falls 2 find-in-kinds.ps _<_ μ-find-in t) find-in.Pre
 
 abbrev find-in-Inv-loop : find-in-lts.InvT-loop
-find-in-Inv-loop table from end origin n i₀ address₀ left₀ i address left = Seeking table from end origin n i address left
+find-in-Inv-loop lent from end origin n table i₀ address₀ left₀ i address left = Seeking table from end origin n i address left
 
 abbrev find-in-μ-loop : find-in-lts.MeasureT-loop
-find-in-μ-loop table from end origin n i₀ address₀ left₀ i address left = end - i
+find-in-μ-loop lent from end origin n table i₀ address₀ left₀ i address left = end - i
 
 pub +find-in-spec : {M : Type 1} → statement M
 +find-in-spec = close μ-find-in λ t. find-in-lts.spec (
