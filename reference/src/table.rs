@@ -4,7 +4,7 @@
 use crate::description::{Data, Detail, Kind, Segment};
 use crate::refusal::{unplaced, Refusal};
 use crate::tree::DEPTH;
-use crate::walk::{copy_out, extent_of, extent_of_list, extent_of_segment, walk, Extent, Met, Outcome, STEPS};
+use crate::walk::{copy_out, extent_of, extent_of_list, extent_of_segment, steps_for, walk, Extent, Met, Outcome};
 
 /// The numbers of one record.
 pub const FIELDS: usize = 8;
@@ -228,7 +228,7 @@ fn locate_in(members: &[Data], mut n: u128, mut address: i128, space: i64) -> Op
 
 /// Variable n of segments whose walk keeps the limits: the nth one met where the walk is short.
 pub fn variable(segments: &[Segment], n: u64) -> Option<Met> {
-    match copy_out(segments, STEPS) {
+    match copy_out(segments, steps_for(segments)) {
         Ok(copying) => usize::try_from(n).ok().and_then(|n| copying.met.get(n).copied()),
         Err(_) => variable_by_division(segments, n),
     }

@@ -1,5 +1,5 @@
 //! The walk over segments and data, twice: by copying out every copy of every group, and by extents, which
-//! multiply instead. The first is the definition and serves small totals, the second all others; tests compare both.
+//! multiply instead. The first is the definition and serves small totals and one in four of the large ones, the second all others; tests compare both.
 
 use crate::description::{Data, Kind, Segment};
 
@@ -94,9 +94,32 @@ pub enum Outcome {
 /// How many steps the walk that copies out may take before extents take its place.
 pub const STEPS: usize = 5_000;
 
-/// The whole walk: copied out where it is short, by extents where it is long.
+/// Enough to copy out a million variables one by one.
+const ALL_STEPS: usize = 4_000_000;
+
+/// A number that depends on all that is walked.
+fn mixed(members: &[Data]) -> u64 {
+    members.iter().fold(members.len() as u64, |sum, data| {
+        let own = (data.offset as u64) ^ (data.size as u64) << 7 ^ (data.replication as u64) << 17;
+        (sum ^ own ^ mixed(&data.members).rotate_left(9)).wrapping_mul(0x9E37_79B9_7F4A_7C15)
+    })
+}
+
+/// The steps that a walk may take here: of the long walks that extents accept, one in four is copied out in full all the
+/// same, so that what is compared with it isn't held to extents alone.
+pub fn steps_for(segments: &[Segment]) -> usize {
+    let sum = segments.iter().fold(0u64, |sum, segment| sum.wrapping_add(mixed(&segment.members)));
+    if sum >> 62 == 0 && matches!(walk_by_extents(segments), Outcome::Kept { .. }) {
+        ALL_STEPS
+    } else {
+        STEPS
+    }
+}
+
+/// The whole walk: copied out where it is short, mostly by extents where it is long.
 pub fn walk(segments: &[Segment]) -> Outcome {
-    match copy_out(segments, STEPS) {
+    match copy_out(segments, steps_for(segments)) {
+        Ok(copying) if copying.met.len() as u128 > VARIABLES => Outcome::TooMany,
         Ok(copying) => Outcome::Kept { variables: copying.met.len() as u64 },
         Err(Ended::Left { segment }) => Outcome::Left { segment },
         Err(Ended::TooLong) => walk_by_extents(segments),

@@ -3,6 +3,9 @@
 use reference::cases::reached::{labels as things, Reached};
 use reference::cases::stats::Shares;
 use reference::cases::{boundaries, is_small, Sort, Stream};
+use reference::plan::planned;
+use reference::table::plan;
+use reference::walk::{copy_out, steps_for, STEPS};
 use reference::{answer, frame, line, Case, Frames, Leaf};
 
 #[test]
@@ -69,6 +72,27 @@ fn shares(sort: Sort, count: u64) -> Shares {
         shares.add(&stream.case(index));
     }
     shares
+}
+
+/// Of the first cases of a stream: how many long walks are copied out in full.
+fn copied_out(sort: Sort, count: u64) -> usize {
+    let stream = Stream::new(1, sort, false);
+    let segments = |case| match case {
+        Case::Plan { text, .. } => planned(&text).ok().map(|planned| planned.segments),
+        Case::Locate { table, .. } => plan(&table),
+        _ => None,
+    };
+    (0..count)
+        .filter_map(|index| segments(stream.case(index)))
+        .filter(|segments| steps_for(segments) > STEPS && copy_out(segments, STEPS).is_err())
+        .filter(|segments| copy_out(segments, steps_for(segments)).is_ok())
+        .count()
+}
+
+#[test]
+fn some_long_walks_are_copied_out() {
+    let counts = [copied_out(Sort::Plan, 5_000), copied_out(Sort::Locate, 5_000)];
+    assert!(counts[0] >= 5 && counts[1] >= 25, "{counts:?}");
 }
 
 fn labels(numbers: impl IntoIterator<Item = u8>, words: &[&str]) -> Vec<String> {
