@@ -4,28 +4,27 @@
 ghost use mathlib.Core.Path.{_≡_};
 ghost use Prim.Native.Nat.{_≤_, _<_};
 ghost use lib.Dec.{eqb};
+ghost use lib.ListN.{getD};
 ghost use Rattle.rules_judge.specs.Judging.{rowAt};
 ghost use Rattle.rules_judge.specs.Tables.{entryAt, manyAt, inTurn};
 ghost use Rattle.rules_judge.specs.Parts.{isNumeric};
+ghost use Rattle.rules_judge.specs.Octal.{rowNumbers, digitAt, firstAt};
 
-// The rows of the text itself, cdi, identification, acdi, segment and group: the entry of each child up to number 18, which is repname.
-const OUTER: [[u8; 19]; 6] = [
-    [0, 1, 0, 0, 0, 0, 0, 0, 0, 0, 0, 0, 0, 0, 0, 0, 0, 0, 0],
-    [0, 0, 1, 2, 3, 0, 0, 0, 0, 0, 0, 0, 0, 0, 0, 0, 0, 0, 0],
-    [0, 0, 0, 0, 0, 0, 0, 0, 0, 0, 5, 0, 1, 2, 3, 4, 0, 0, 0],
-    [0, 0, 0, 0, 0, 0, 0, 0, 0, 0, 0, 0, 0, 0, 0, 0, 0, 0, 0],
-    [0, 0, 0, 0, 0, 3, 3, 3, 3, 3, 0, 0, 0, 0, 0, 0, 1, 2, 0],
-    [0, 0, 0, 0, 0, 4, 4, 4, 4, 4, 0, 0, 0, 0, 0, 0, 1, 2, 3],
-];
-
-// The rows of int, string, eventid, float, map and relation: the entry of each child from number 10 on, which is map.
-const INNER: [[u8; 14]; 6] = [
-    [6, 0, 0, 0, 0, 0, 1, 2, 0, 3, 4, 5, 0, 0],
-    [3, 0, 0, 0, 0, 0, 1, 2, 0, 0, 0, 0, 0, 0],
-    [3, 0, 0, 0, 0, 0, 1, 2, 0, 0, 0, 0, 0, 0],
-    [6, 0, 0, 0, 0, 0, 1, 2, 0, 3, 4, 5, 0, 0],
-    [0, 3, 0, 0, 0, 0, 1, 2, 0, 0, 0, 0, 0, 0],
-    [0, 0, 0, 0, 0, 0, 0, 0, 0, 0, 0, 0, 1, 2],
+// The rows of the text itself, cdi, identification, acdi, segment, group, int, string, eventid, float, map and relation as octal numbers: a digit for
+// the entry of each child, the first child's the last. Rows before that of int begin with child 0, the others with map, which is number 10.
+const ROWS: [u64; 12] = [
+    0o10,
+    0o32100,
+    0o4321_05_00000_00000,
+    0,
+    0o21_000000_33333_00000,
+    0o321_000000_44444_00000,
+    0o543_021_000006,
+    0o21_000003,
+    0o21_000003,
+    0o543_021_000006,
+    0o21_000030,
+    0o21_000000_000000,
 ];
 
 // The entry of each row at which more than one child may stand, or 0.
@@ -37,24 +36,32 @@ fn wide(number: u8) -> usize
     number as usize
 }
 
-fn outer_entry(row: usize, child: usize) -> usize
-    requires { ⌜ (row < 6) × (child < 24) ⌝ }
-    ensures { λ r. ⌜ r ≡ entryAt row child ⌝ }
+// The row of that number; those of elements that hold text only have no child.
+fn row_of(row: usize) -> u64
+    ensures { λ r. ⌜ r ≡ getD rowNumbers row 0 ⌝ }
 {
-    if child < 19 {
-        return wide(OUTER[row][child]);
+    if row < 12 {
+        return ROWS[row];
     }
     0
 }
 
-fn inner_entry(row: usize, child: usize) -> usize
-    requires { ⌜ (6 ≤ row) × (row < 12) × (child < 24) ⌝ }
-    ensures { λ r. ⌜ r ≡ entryAt row child ⌝ }
+// The number of the first child that a row has a digit for.
+fn first_of(row: usize) -> usize
+    ensures { λ r. ⌜ r ≡ firstAt row ⌝ }
 {
-    if child < 10 {
+    if row < 6 {
         return 0;
     }
-    wide(INNER[row - 6][child - 10])
+    10
+}
+
+// An octal digit of a number, counted from the last.
+fn digit(number: u64, index: usize) -> usize
+    requires { ⌜ index < 21 ⌝ }
+    ensures { λ r. ⌜ r ≡ digitAt number index ⌝ }
+{
+    ((number >> (3 * index)) % 8) as usize
 }
 
 // The entry of a child in a row, counted from 1, or 0 where the row lacks it.
@@ -62,11 +69,13 @@ pub fn entry_of(row: usize, child: usize) -> usize
     requires { ⌜ child < 24 ⌝ }
     ensures { λ r. ⌜ r ≡ entryAt row child ⌝ }
 {
-    if row < 6 {
-        return outer_entry(row, child);
+    let first = first_of(row);
+    if child < first {
+        return 0;
     }
-    if row < 12 {
-        return inner_entry(row, child);
+    let index = child - first;
+    if index < 21 {
+        return digit(row_of(row), index);
     }
     0
 }

@@ -19,7 +19,7 @@ use Rattle.names.proofs.Positions.{element-kth, element-high}
 use Rattle.rules_judge.specs.Judging.{rowAt, judging-page}
 use Rattle.rules_judge.specs.Tables.{entryAt, manyAt, tables-page}
 use Rattle.rules_judge.specs.Parts.{isNumeric}
-use Rattle.rules_judge.proofs.Below.{below, all-below}
+use Rattle.rules_judge.proofs.Below.{below, all-below, alike, alike-equal}
 use Rattle.rules.proofs.Named.{has-number, counted}
 use Rattle.rules_judge.proofs.Tabled.{no-children}
 
@@ -96,16 +96,6 @@ name-back n z = sym (element-kth n (elementNumber n - 1) (omega (arith, element-
     there = omega (arith, z)
 
 -- ── a child's entry ──
-
-alike : Bool → Bool → Bool
-alike true b = b
-alike false b = not b
-
-alike-equal : (a b : Bool) → alike a b ≡ true → a ≡ b
-unfolding alike
-alike-equal true b e = sym e
-alike-equal false true e = impossible (cc)
-alike-equal false false e = refl
 
 -- more than one child may stand exactly at the row's own entry for it
 isMany : ℕ → ℕ → Bool

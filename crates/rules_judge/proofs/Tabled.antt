@@ -91,71 +91,10 @@ text-held r = ⊎-elim (λ h. lt-leb 12 r h ∙ sym (less (below 12 (λ r. not (
 
 pub ruleset text-rows = (text-held, needs)
 
--- ── children ──
-
-unfoldable pub outer : List (List ℕ)
-outer =
-    (0 ∷ 1 ∷ 0 ∷ 0 ∷ 0 ∷ 0 ∷ 0 ∷ 0 ∷ 0 ∷ 0 ∷ 0 ∷ 0 ∷ 0 ∷ 0 ∷ 0 ∷ 0 ∷ 0 ∷ 0 ∷ 0 ∷ [])
-    ∷ (0 ∷ 0 ∷ 1 ∷ 2 ∷ 3 ∷ 0 ∷ 0 ∷ 0 ∷ 0 ∷ 0 ∷ 0 ∷ 0 ∷ 0 ∷ 0 ∷ 0 ∷ 0 ∷ 0 ∷ 0 ∷ 0 ∷ [])
-    ∷ (0 ∷ 0 ∷ 0 ∷ 0 ∷ 0 ∷ 0 ∷ 0 ∷ 0 ∷ 0 ∷ 0 ∷ 5 ∷ 0 ∷ 1 ∷ 2 ∷ 3 ∷ 4 ∷ 0 ∷ 0 ∷ 0 ∷ [])
-    ∷ (0 ∷ 0 ∷ 0 ∷ 0 ∷ 0 ∷ 0 ∷ 0 ∷ 0 ∷ 0 ∷ 0 ∷ 0 ∷ 0 ∷ 0 ∷ 0 ∷ 0 ∷ 0 ∷ 0 ∷ 0 ∷ 0 ∷ [])
-    ∷ (0 ∷ 0 ∷ 0 ∷ 0 ∷ 0 ∷ 3 ∷ 3 ∷ 3 ∷ 3 ∷ 3 ∷ 0 ∷ 0 ∷ 0 ∷ 0 ∷ 0 ∷ 0 ∷ 1 ∷ 2 ∷ 0 ∷ [])
-    ∷ (0 ∷ 0 ∷ 0 ∷ 0 ∷ 0 ∷ 4 ∷ 4 ∷ 4 ∷ 4 ∷ 4 ∷ 0 ∷ 0 ∷ 0 ∷ 0 ∷ 0 ∷ 0 ∷ 1 ∷ 2 ∷ 3 ∷ [])
-    ∷ []
-
-unfoldable pub inner : List (List ℕ)
-inner =
-    (6 ∷ 0 ∷ 0 ∷ 0 ∷ 0 ∷ 0 ∷ 1 ∷ 2 ∷ 0 ∷ 3 ∷ 4 ∷ 5 ∷ 0 ∷ 0 ∷ [])
-    ∷ (3 ∷ 0 ∷ 0 ∷ 0 ∷ 0 ∷ 0 ∷ 1 ∷ 2 ∷ 0 ∷ 0 ∷ 0 ∷ 0 ∷ 0 ∷ 0 ∷ [])
-    ∷ (3 ∷ 0 ∷ 0 ∷ 0 ∷ 0 ∷ 0 ∷ 1 ∷ 2 ∷ 0 ∷ 0 ∷ 0 ∷ 0 ∷ 0 ∷ 0 ∷ [])
-    ∷ (6 ∷ 0 ∷ 0 ∷ 0 ∷ 0 ∷ 0 ∷ 1 ∷ 2 ∷ 0 ∷ 3 ∷ 4 ∷ 5 ∷ 0 ∷ 0 ∷ [])
-    ∷ (0 ∷ 3 ∷ 0 ∷ 0 ∷ 0 ∷ 0 ∷ 1 ∷ 2 ∷ 0 ∷ 0 ∷ 0 ∷ 0 ∷ 0 ∷ 0 ∷ [])
-    ∷ (0 ∷ 0 ∷ 0 ∷ 0 ∷ 0 ∷ 0 ∷ 0 ∷ 0 ∷ 0 ∷ 0 ∷ 0 ∷ 0 ∷ 1 ∷ 2 ∷ [])
-    ∷ []
+-- ── the entry at which several may stand ──
 
 unfoldable pub several : List ℕ
 several = 0 ∷ 3 ∷ 0 ∷ 0 ∷ 3 ∷ 4 ∷ 0 ∷ 0 ∷ 0 ∷ 0 ∷ 3 ∷ 0 ∷ []
-
--- the rows of a table from row k on have the entries of the children from m on
-isEntry : List (List ℕ) → ℕ → ℕ → ℕ → ℕ → Bool
-isEntry t k m r c = eqb (getD (getD t r []) c 0) (entryAt (r + k) (c + m))
-
-areEntries : List (List ℕ) → ℕ → ℕ → ℕ → ℕ → Bool
-areEntries t k m n r = all-below n (isEntry t k m r)
-
-outer-entries : all-below 6 (areEntries outer 0 0 19) ≡ true
-unfolding all-below areEntries isEntry outer words-page rows-page rules-page judging-page tables-page
-outer-entries = refl
-
-inner-entries : all-below 6 (areEntries inner 6 10 14) ≡ true
-unfolding all-below areEntries isEntry inner words-page rows-page rules-page judging-page tables-page
-inner-entries = refl
-
--- no child behind repname stands in the outer rows, and none before map in the inner ones
-outer-none : all-below 6 (areEntries [] 0 19 5) ≡ true
-unfolding all-below areEntries isEntry words-page rows-page rules-page judging-page tables-page
-outer-none = refl
-
-inner-none : all-below 6 (areEntries [] 6 0 10) ≡ true
-unfolding all-below areEntries isEntry words-page rows-page rules-page judging-page tables-page
-inner-none = refl
-
-entry-in : (t : List (List ℕ)) (k m n : ℕ) → all-below 6 (areEntries t k m n) ≡ true → (r c i j : ℕ) → i < 6 → j < n → r ≡ i + k → c ≡ j + m → getD (getD t i []) j 0 ≡ entryAt r c
-unfolding areEntries isEntry
-entry-in t k m n e r c i j h g p q = eqb-true _ _ (below n (isEntry t k m i) (below 6 (areEntries t k m n) e i h) j g) ∙ rw (p, q)
-
-module _ (r c : ℕ) where
-  pub outer-right : {i j : ℕ} → r < 6 → c < 19 → i ≡ r → j ≡ c → getD (getD outer i []) j 0 ≡ entryAt r c
-  outer-right {i} {j} h g p q = entry-in outer 0 0 19 outer-entries r c i j (omega arith) (omega arith) (omega arith) (omega arith)
-
-  pub outer-end : r < 6 → c < 24 → 19 ≤ c → 0 ≡ entryAt r c
-  outer-end h g l = entry-in [] 0 19 5 outer-none r c r (c - 19) h (omega arith) (omega arith) (omega arith)
-
-  pub inner-right : {i j : ℕ} → 6 ≤ r → r < 12 → 10 ≤ c → c < 24 → i ≡ r - 6 → j ≡ c - 10 → getD (getD inner i []) j 0 ≡ entryAt r c
-  inner-right {i} {j} l h k g p q = entry-in inner 6 10 14 inner-entries r c i j (omega arith) (omega arith) (omega arith) (omega arith)
-
-  pub inner-begin : 6 ≤ r → r < 12 → c < 10 → 0 ≡ entryAt r c
-  inner-begin l h g = entry-in [] 6 0 10 inner-none r c (r - 6) c (omega arith) g (omega arith) (omega arith)
 
 isSeveral : ℕ → Bool
 isSeveral r = eqb (getD several r 0) (manyAt r)
@@ -164,9 +103,11 @@ several-rows : all-below 12 isSeveral ≡ true
 unfolding all-below isSeveral several words-page rows-page judging-page tables-page
 several-rows = refl
 
-pub several-right : (r : ℕ) {i : ℕ} → r < 12 → i ≡ r → getD several i 0 ≡ manyAt r
+pub several-there : (r : ℕ) {v : ℕ} → r < 12 → v ≡ getD several r 0 → v ≡ manyAt r
 unfolding isSeveral
-several-right r h e = ap (λ (i : ℕ). getD several i 0) e ∙ eqb-true _ _ (below 12 isSeveral several-rows r h)
+several-there r h e = e ∙ eqb-true _ _ (below 12 isSeveral several-rows r h)
+
+pub ruleset several-at = (several-there, none-many, needs)
 
 -- ── order and count ──
 

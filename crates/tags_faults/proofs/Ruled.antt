@@ -3,38 +3,62 @@ use mathlib.Core.Path.{_≡_, refl, sym, ap, _∙_}
 use mathlib.Core.List.{List, [], _∷_}
 use mathlib.Core.Bool.{Bool, true, false}
 use mathlib.Core.Logic.{⊎-elim}
-use Prim.Native.Nat.{ℕ, zero, suc, _+_, _≤_, _<_}
+use Prim.Native.Nat.{ℕ, zero, suc, _+_, _/_, _%_, _^_, _≤_, _<_}
 use native.Mathlib.Omega.{arith}
 use borrow.Author.Needs.{needs}
 use borrow.Author.Tests.{eqb-true}
 use lib.Dec.{eqb}
 use lib.ListN.{length, getD, List·getD-eq-default}
-use Rattle.scan.proofs.Tests.{eq-or-ne}
-use Rattle.rules_judge.specs.Tables.{ruleNumbers, ruleAt, attributeOf, tables-page}
-use Rattle.rules_judge.proofs.Below.{all-below, below, Below, at-below}
-use Rattle.tags_faults.specs.Told.{lesserOf, ruleBy, rulesBy, faultBy, told-page}
+use Rattle.scan.proofs.Tests.{eq-or-ne, lt-or-le}
+use Rattle.rules_judge.specs.Tables.{ruleNumbers, ruleAt, attributeOf, isOneOf, tables-page}
+use Rattle.rules_judge.proofs.Below.{all-below, below, Below, at-below, alike, alike-equal}
+use Rattle.tags_faults.specs.Told.{knownSets, knownSet, hasBit, lesserOf, ruleBy, rulesBy, faultBy, told-page}
 
 -- ── which attributes an element knows ──
 
-unfoldable pub knownTable : List (List ℕ)
-knownTable = (0 ∷ 0 ∷ 0 ∷ []) ∷ (1 ∷ 2 ∷ 0 ∷ []) ∷ (0 ∷ 0 ∷ 0 ∷ []) ∷ (3 ∷ 4 ∷ 0 ∷ []) ∷ (5 ∷ 6 ∷ 0 ∷ []) ∷ (7 ∷ 8 ∷ 0 ∷ []) ∷ (9 ∷ 8 ∷ 0 ∷ []) ∷ (9 ∷ 8 ∷ 0 ∷ []) ∷ (8 ∷ 0 ∷ 0 ∷ []) ∷ (9 ∷ 8 ∷ 10 ∷ []) ∷ (0 ∷ 0 ∷ 0 ∷ []) ∷ (0 ∷ 0 ∷ 0 ∷ []) ∷ []
+isKnown : ℕ → ℕ → Bool
+isKnown e n = isOneOf (attributeOf (ruleAt e 0)) (attributeOf (ruleAt e 1)) (attributeOf (ruleAt e 2)) n
 
-knows : all-below 12 (λ e. all-below 3 (λ i. eqb (getD (getD knownTable e []) i 0) (attributeOf (ruleAt e i)))) ≡ true
-unfolding all-below knownTable tables-page
+knows : all-below 12 (λ e. all-below 11 (λ n. alike (hasBit (knownSet e) n) (isKnown e n))) ≡ true
+unfolding all-below alike isKnown knownSets knownSet hasBit tables-page
 knows = refl
 
-module _ (e i : ℕ) where
-  pub known-there : {k m : ℕ} → e < 12 → i < 3 → k ≡ e → m ≡ i → getD (getD knownTable k []) m 0 ≡ attributeOf (ruleAt e i)
-  known-there h g p q = rw (p, q) (eqb-true _ _ (below 3 _ (below 12 _ knows e h) i g))
+-- no element from 12 on knows an attribute
+knows-none : all-below 11 (λ n. alike (hasBit 0 n) (isOneOf 0 0 0 n)) ≡ true
+unfolding all-below alike hasBit tables-page
+knows-none = refl
 
-  pub none-known : 12 ≤ e → 0 ≡ attributeOf (ruleAt e i)
-  unfolding ruleAt attributeOf
-  none-known h = sym (ap (λ (l : List ℕ). attributeOf (getD l i 0)) (List·getD-eq-default ruleNumbers [] far))
+module _ (e : ℕ) where
+  none-known : 12 ≤ e → (i : ℕ) → ruleAt e i ≡ 0
+  unfolding ruleAt
+  none-known h i = ap (λ (l : List ℕ). getD l i 0) (List·getD-eq-default ruleNumbers [] (unfold ruleNumbers in h))
+
+  no-set : 12 ≤ e → knownSet e ≡ 0
+  unfolding knownSet
+  no-set h = List·getD-eq-default knownSets 0 (unfold knownSets in h)
+
+  -- an attribute's bit says whether the element knows it
+  pub bit-known : {s n : ℕ} {t : Bool} → n ≤ 10 → s ≡ knownSet e → t ≡ hasBit s n → t ≡ isOneOf (attributeOf (ruleAt e 0)) (attributeOf (ruleAt e 1)) (attributeOf (ruleAt e 2)) n
+  bit-known {s} {n} h p q = q ∙ rw p (⊎-elim near far (lt-or-le e 12))
     where
-      far : length ruleNumbers ≤ e
-      far = unfold ruleNumbers in omega arith
+      near : e < 12 → hasBit (knownSet e) n ≡ isOneOf (attributeOf (ruleAt e 0)) (attributeOf (ruleAt e 1)) (attributeOf (ruleAt e 2)) n
+      near k = unfold isKnown in alike-equal _ _ (below 11 (λ n. alike (hasBit (knownSet e) n) (isKnown e n)) (below 12 _ knows e k) n (omega arith))
 
-pub ruleset known-table = (known-there, none-known, needs)
+      far : 12 ≤ e → hasBit (knownSet e) n ≡ isOneOf (attributeOf (ruleAt e 0)) (attributeOf (ruleAt e 1)) (attributeOf (ruleAt e 2)) n
+      far k = rw (no-set k, none-known k 0, none-known k 1, none-known k 2) (unfold attributeOf in alike-equal _ _ (below 11 _ knows-none n (omega arith)))
+
+  pub set-is : {k : ℕ} → k ≡ e → getD knownSets k 0 ≡ knownSet e
+  unfolding knownSet
+  set-is q = rw q
+
+  pub set-none : 12 ≤ e → 0 ≡ knownSet e
+  set-none h = sym (no-set h)
+
+pub bit-is : (s n : ℕ) {m : ℕ} → m ≡ n → eqb ((s / 2 ^ m) % 2) 1 ≡ hasBit s n
+unfolding hasBit
+bit-is s n e = rw e
+
+pub ruleset known-sets = (set-is, set-none, needs)
 
 -- ── the faults ──
 

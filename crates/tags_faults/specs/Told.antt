@@ -2,13 +2,23 @@
 use mathlib.Core.Path.{_≡_}
 use mathlib.Core.List.{List, [], _∷_}
 use mathlib.Core.Bool.{Bool, cond}
-use Prim.Native.Nat.{ℕ, _≤_}
+use Prim.Native.Nat.{ℕ, _/_, _%_, _^_, _≤_}
 use lib.Dec.{eqb, ltb}
 use lib.ListN.{getD}
 use Rattle.cdi.specs.Faults.{Fault, fault}
 use Rattle.cdi.specs.Pieces.{Attribute}
 use Rattle.rules_judge.specs.Tables.{ruleAt, attributeOf, isRequired}
 use Rattle.tags_values.specs.Codes.{codeIn}
+
+-- the attributes that an element knows, as the bits of a number: bit n is the attribute of number n
+unfoldable pub knownSets : List ℕ
+knownSets = 0 ∷ 6 ∷ 0 ∷ 24 ∷ 96 ∷ 384 ∷ 768 ∷ 768 ∷ 256 ∷ 1792 ∷ 0 ∷ 0 ∷ []
+
+unfoldable pub knownSet : ℕ → ℕ
+knownSet e = getD knownSets e 0
+
+unfoldable pub hasBit : ℕ → ℕ → Bool
+hasBit s n = eqb ((s / 2 ^ n) % 2) 1
 
 -- the smaller of two numbers of faults, of which 0 is none
 unfoldable pub lesserOf : ℕ → ℕ → ℕ

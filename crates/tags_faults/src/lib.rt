@@ -3,8 +3,7 @@
 
 ghost use mathlib.Core.Path.{_≡_};
 ghost use Prim.Native.Nat.{_≤_, _<_};
-ghost use Rattle.rules_judge.specs.Tables.{ruleAt, attributeOf, isOneOf};
-ghost use Rattle.tags_faults.specs.Told.{lesserOf, ownBy, neededBy, intBy, floatBy, rulesBy, faultBy};
+ghost use Rattle.tags_faults.specs.Told.{knownSet, hasBit, lesserOf, ownBy, neededBy, intBy, floatBy, rulesBy, faultBy};
 
 // The numbers of attributes.
 const NAMESPACE: usize = 1;
@@ -27,20 +26,20 @@ const SIZE: usize = 9;
 
 const FORMATTING: usize = 10;
 
-// The attributes that each element knows, from the text itself to relation.
-const KNOWN: [[u8; 3]; 12] = [
-    [0, 0, 0],
-    [1, 2, 0],
-    [0, 0, 0],
-    [3, 4, 0],
-    [5, 6, 0],
-    [7, 8, 0],
-    [9, 8, 0],
-    [9, 8, 0],
-    [8, 0, 0],
-    [9, 8, 10],
-    [0, 0, 0],
-    [0, 0, 0],
+// The attributes that each element knows, from the text itself to relation: bit n of a number is the attribute of number n.
+const KNOWN: [u64; 12] = [
+    0,
+    0b110,
+    0,
+    0b1_1000,
+    0b110_0000,
+    0b1_1000_0000,
+    0b11_0000_0000,
+    0b11_0000_0000,
+    0b1_0000_0000,
+    0b111_0000_0000,
+    0,
+    0,
 ];
 
 fn wide(number: u8) -> usize
@@ -49,23 +48,23 @@ fn wide(number: u8) -> usize
     number as usize
 }
 
-// The number of the attribute of that index, 0 to 2, that an element knows; 0 is none.
-pub fn known_at(element: u8, index: usize) -> u8
-    requires { ⌜ index < 3 ⌝ }
-    ensures { λ r. ⌜ r ≡ attributeOf (ruleAt element index) ⌝ }
+// The attributes that an element knows, as bits of a number.
+pub fn known_to(element: u8) -> u64
+    ensures { λ r. ⌜ r ≡ knownSet element ⌝ }
 {
     if element < 12 {
         let i = wide(element);
-        return KNOWN[i][index];
+        return KNOWN[i];
     }
     0
 }
 
-// Is an attribute of that number one of three?
-pub fn is_one_of(one: u8, two: u8, three: u8, number: u8) -> bool
-    ensures { λ r. ⌜ r ≡ isOneOf one two three number ⌝ }
+// Is the attribute of that number among these?
+pub fn is_among(set: u64, number: u8) -> bool
+    requires { ⌜ number ≤ 10 ⌝ }
+    ensures { λ r. ⌜ r ≡ hasBit set number ⌝ }
 {
-    (number != 0) & ((number == one) | ((number == two) | (number == three)))
+    (set >> wide(number)) % 2 == 1
 }
 
 // The smaller of two numbers of faults, of which 0 is none.

@@ -27,6 +27,8 @@ use Rattle.tags_spots.specs.declared.Spot.{Spot}
 use Rattle.tags_values.specs.Codes.{amountFor, codeOf, amountOf, numbered, codeIn, amountIn}
 use Rattle.tags_values.proofs.Formed.{code-there}
 use Rattle.tags_values.proofs.Numbered.{by-number}
+use Rattle.tags_faults.specs.Told.{knownSet, hasBit}
+use Rattle.tags_faults.proofs.Ruled.{bit-known}
 use Rattle.tags_cells.specs.Cells.{isFirst, withCode, withAmount, withExact, hasOne, wasMet, knownTwice, Fresh}
 use Rattle.tags_gather.specs.Gathers.{Gathers}
 
@@ -425,14 +427,14 @@ module _ {e at : ℕ} {s : List ℕ} {i : ℕ} {codes amounts : List ℕ} {count
       pub value-high : a .close ≤ length s
       value-high = omega (arith, v .ordered .end, v .ordered .high)
 
-      pub one-step : {one two three : ℕ} {k m : Bool} {x : ℕ} {codes′ amounts′ : List ℕ} → one ≡ T.attributeOf (ruleAt e 0) → two ≡ T.attributeOf (ruleAt e 1) → three ≡ T.attributeOf (ruleAt e 2) → k ≡ isOneOf one two three (a .number) → m ≡ not (eqb (getD codes (a .number) 0) 0)
+      pub one-step : {set : ℕ} {k m : Bool} {x : ℕ} {codes′ amounts′ : List ℕ} → set ≡ knownSet e → k ≡ hasBit set (a .number) → m ≡ not (eqb (getD codes (a .number) 0) 0)
           → x ≡ withExact (a .number) (part s (a .value) (a .close)) codes exact → x ≤ 8
           → codes′ ≡ withCode (a .number) (part s (a .value) (a .close)) codes → amounts′ ≡ withAmount (a .number) (part s (a .value) (a .close)) codes amounts
           → Going e at s (a .end) codes′ amounts′ (count + 1) x (referred || a .refers) (known && k) (again || m) (strange || eqb (a .number) 0)
-      one-step first second third f g q l p r = rw (p, r, q) (record {
+      one-step set f g q l p r = rw (p, r, q) (record {
         tag = another (w .tag) v z;
         noted = one-noted next-noted (t .number z);
-        flagged = one-flagged next-flagged (t .number z) (w .noted .codes-long) (w .noted .unknown) (t .refers z) (rw (← first, ← second, ← third) f) g;
+        flagged = one-flagged next-flagged (t .number z) (w .noted .codes-long) (w .noted .unknown) (t .refers z) (bit-known e number-small set f) g;
         few = omega (arith, w .few, ahead v z);
         small = omega (arith, q, l);
       })

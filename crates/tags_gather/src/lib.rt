@@ -2,8 +2,8 @@
 
 use tags_cells::exact_with;
 use tags_cells::note;
-use tags_faults::is_one_of;
-use tags_faults::known_at;
+use tags_faults::is_among;
+use tags_faults::known_to;
 use tags_spots::next_spot;
 ghost use mathlib.Core.Path.{_≡_};
 ghost use mathlib.Core.Bool.{not};
@@ -53,9 +53,7 @@ pub fn gather(
     ensures closes { λ r. ⌜ Closes (now (s .entry)) at (r .last) ⌝ }
     ensures gathers { λ r. ⌜ Gathers element (attributes 0 (drop at (now (s .entry)))) r (now (codes .exit)) (now (amounts .exit)) ⌝ }
 {
-    let one = known_at(element, 0);
-    let two = known_at(element, 1);
-    let three = known_at(element, 2);
+    let set = known_to(element);
     let mut i = at;
     let mut count: usize = 0;
     let mut exact: u8 = 1;
@@ -81,7 +79,7 @@ pub fn gather(
         let close = a.close;
         let number = a.number;
         refers = refers | a.refers;
-        known = known & is_one_of(one, two, three, number);
+        known = known & is_among(set, number);
         again = again | was_met(number, codes);
         strange = strange | (number == 0);
         exact = exact_with(&s[from..close], number, codes, exact);

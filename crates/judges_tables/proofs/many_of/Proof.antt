@@ -1,6 +1,5 @@
 use borrow.Author.Needs.{needs}
-use Rattle.rules_judge.proofs.Tabled.{several}
-use Rattle.judges_tables.proofs.Looking.{entries}
+use Rattle.rules_judge.proofs.Tabled.{several, several-at}
 use Rattle.judges_tables.proofs.many_of.Statement.{statement}
 use Rattle.judges_tables.proofs.many_of.Tie as tie
 
@@ -10,5 +9,5 @@ many-of-spec =
     tie.close (tie.spec
     (λ c. search needs)
     (λ c κs. search needs)
-    (λ c. search entries)
-    (λ c. search entries))
+    (λ c. search several-at)
+    (λ c. search several-at))

@@ -5,21 +5,15 @@ use Rattle.tags_gather.proofs.gather.Statement.{statement}
 use Rattle.tags_gather.proofs.gather.Tie as tie
 
 abbrev Inv-loop : tie.InvT-loop
-Inv-loop s at element codes₀ amounts₀ one two three i₀ count₀ exact₀ refers₀ known₀ again₀ strange₀ codes amounts i count exact refers known again strange =
+Inv-loop s at element codes₀ amounts₀ set i₀ count₀ exact₀ refers₀ known₀ again₀ strange₀ codes amounts i count exact refers known again strange =
     Going element at s i codes amounts count exact refers known again strange
 
 abbrev μ-loop : tie.MeasureT-loop
-μ-loop s at element codes₀ amounts₀ one two three i₀ count₀ exact₀ refers₀ known₀ again₀ strange₀ codes amounts i count exact refers known again strange =
+μ-loop s at element codes₀ amounts₀ set i₀ count₀ exact₀ refers₀ known₀ again₀ strange₀ codes amounts i count exact refers known again strange =
     length s - i
 
-known-at-requires : tie.Need-known-at-requires Inv-loop μ-loop
-known-at-requires c κs = search gathering
-
-known-at-requires-2 : tie.Need-known-at-requires-2 Inv-loop μ-loop
-known-at-requires-2 c κs = search gathering
-
-known-at-requires-3 : tie.Need-known-at-requires-3 Inv-loop μ-loop
-known-at-requires-3 c κs = search gathering
+known-to-requires : tie.Need-known-to-requires Inv-loop μ-loop
+known-to-requires c κs = search gathering
 
 loop-holds : tie.Need-loop-holds Inv-loop μ-loop
 loop-holds c = search gathering
@@ -30,8 +24,8 @@ next-spot-requires c κs = search gathering
 returns : tie.Need-returns Inv-loop μ-loop
 returns c = search gathering
 
-is-one-of-requires : tie.Need-is-one-of-requires Inv-loop μ-loop
-is-one-of-requires c κs = search gathering
+is-among-requires : tie.Need-is-among-requires Inv-loop μ-loop
+is-among-requires c κs = search gathering
 
 was-met-requires : tie.Need-was-met-requires Inv-loop μ-loop
 was-met-requires c κs = search gathering
@@ -75,8 +69,8 @@ loop-again c =
     let spot = more .before in
     let loop = spot .before in
     one-step (loop .loop .inv) (spot .next-spot .result) (spot .next-spot .ensures .0) (spot .next-spot .ensures .1) (more .if1 .left)
-    (loop .before .before .before .known-at .ensures) (loop .before .before .known-at2 .ensures) (loop .before .known-at3 .ensures)
-    (known .is-one-of .ensures) (met .was-met .ensures) (sized .exact-with .ensures .0) (sized .exact-with .ensures .1) (c .note .ensures .0) (c .note .ensures .1)
+    (loop .before .known-to .ensures)
+    (known .is-among .ensures) (met .was-met .ensures) (sized .exact-with .ensures .0) (sized .exact-with .ensures .1) (c .note .ensures .0) (c .note .ensures .1)
 
 pub gather-spec : {M : Type 1} → statement M
 gather-spec =
@@ -84,13 +78,11 @@ gather-spec =
     (tie.spec
     Inv-loop
     μ-loop
-    known-at-requires
-    known-at-requires-2
-    known-at-requires-3
+    known-to-requires
     loop-holds
     next-spot-requires
     returns
-    is-one-of-requires
+    is-among-requires
     was-met-requires
     sub-exact-with
     part-exact-with-start
