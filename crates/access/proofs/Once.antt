@@ -10,7 +10,7 @@ use lib.Dec.{eqb}
 use lib.IntN.{ℤ}
 use lib.ListN.{length, take, drop, length-take, length-drop}
 use Rattle.cdi.specs.Faults.{Fault, fault, Answer, accepted, refused}
-use Rattle.cdi.specs.Values.{signed}
+use Rattle.cdi.specs.Values.{withSign}
 use Rattle.cdi.specs.Access as A
 use Rattle.cdi.specs.Access.{Window, Value, integer, event, string, settingOf, isInside, written, windowAfter, read}
 use Rattle.cdi.proofs.Quiet.{impossible}
@@ -98,8 +98,8 @@ module _ (b : List ℕ) (t : List ℤ) (n : ℕ) (w : Window) (v : Value) where
 -- ── reading ──
 
 -- a sign and a magnitude, where zero isn't negative
-signs : (b d : Bool) (m n : ℕ) → (b ≡ true → 0 < m) → (d ≡ true → 0 < n) → signed b m ≡ signed d n → (b ≡ d) × (m ≡ n)
-unfolding signed up down
+signs : (b d : Bool) (m n : ℕ) → (b ≡ true → 0 < m) → (d ≡ true → 0 < n) → withSign b m ≡ withSign d n → (b ≡ d) × (m ≡ n)
+unfolding withSign up down
 signs true true m n x y e = (refl, omega (arith, ap down e, down-negative m, down-negative n))
 signs true false m n x y e = let z = x refl in absurd (omega (arith, ap down e, down-negative m))
 signs false true m n x y e = let z = y refl in absurd (omega (arith, ap down e, down-negative n))

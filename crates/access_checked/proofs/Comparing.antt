@@ -13,7 +13,7 @@ use lib.ListN.{length, take, drop}
 use lib.Seq.{take-all}
 use Rattle.cdi.specs.Faults.{fault, Answer, accepted, refused, _andThen_}
 use Rattle.cdi.specs.Table.{sameTable, tableOf}
-use Rattle.cdi.specs.Planning.{Description, ending, characters, opening, markup, elements, addresses, counting, described}
+use Rattle.cdi.specs.Planning.{Description, ending, characters, opening, markup, elements, addressing, counting, described}
 use Rattle.cdi.specs.Access.{exact}
 use Rattle.cdi.proofs.PlanOf.{same-table}
 use Rattle.scan.proofs.Tests.{lt-or-le}
@@ -119,6 +119,6 @@ module _ (b : List ℕ) (t : List ℤ) {o : Opened} (e : openedOf b o ≡ (endin
 
     pub check-ended : (r : Checked) → checkedOf r ≡ comparedOf c t → checkedOf r ≡ knownOf b t
     unfolding comparedOf knownOf ofMarkup described openedOf
-    check-ended r k = let l : z - 0 ≡ z = omega arith in k ∙ by (markup c andThen elements andThen addresses andThen counting) ∙ sym (rw (sym e ∙ ap (openedOf b) q, l))
+    check-ended r k = let l : z - 0 ≡ z = omega arith in k ∙ by (markup c andThen elements andThen addressing andThen counting) ∙ sym (rw (sym e ∙ ap (openedOf b) q, l))
 
 pub ruleset checking = (check-refused, check-ended, lent-end, lent-long, lent-short, needs)

@@ -17,7 +17,7 @@ use Rattle.cdi.specs.Numbers.{within}
 use Rattle.cdi.specs.Rules.{boundsOf}
 use Rattle.cdi.specs.Table.{sameNumber}
 use Rattle.cdi.specs.Plans.{sizeFits, oneOf}
-use Rattle.cdi.specs.Values.{signed}
+use Rattle.cdi.specs.Values.{withSign}
 use Rattle.cdi.specs.Access as A
 use Rattle.cdi.specs.Access.{Window, Value, integer, event, string, childOf, properties, hasMap, kindOfValue, inBounds, isGoodText, equals, isAdmitted, isInside, isFloat, isMappedEvent, firstCause, writeCauses, readCauses}
 use Rattle.cdi.proofs.Quiet.{impossible}
@@ -109,7 +109,7 @@ module _ {v : Wanted} (t : List ℕ) where
       unfolding Bounded wantedOf kindOfValue settingIs
       bounded-other h k = absurd (h (sym (rw e at k)))
 
-      pub bounded-int : {r : Bool} → r ≡ within (boundsOf (s .size) (contentIn c (s .part)) .min) (boundsOf (s .size) (contentIn c (s .part)) .max) (signed b m)
+      pub bounded-int : {r : Bool} → r ≡ within (boundsOf (s .size) (contentIn c (s .part)) .min) (boundsOf (s .size) (contentIn c (s .part)) .max) (withSign b m)
           → Bounded (settingIs c s) (wantedOf v t) r
       unfolding Bounded wantedOf inBounds settingIs
       bounded-int q k = q ∙ sym (rw e)

@@ -14,7 +14,7 @@ use Rattle.cdi.specs.Faults.{fault, accepted, refused, isAccepted}
 use Rattle.cdi.specs.Text.{zeroFrom, isUtf8}
 use Rattle.cdi.specs.Rules.{boundOf, isSigned, boundsOf}
 use Rattle.cdi.specs.Plans.{sizeFits}
-use Rattle.cdi.specs.Values.{signed, valueOf, uncomplement}
+use Rattle.cdi.specs.Values.{withSign, valueOf, uncomplement}
 use Rattle.cdi.specs.Access as A
 use Rattle.cdi.specs.Access.{Window, Value, integer, string, firstCause, readCauses, startIn, ownBytes, textIn, valueIn, readFrom}
 use Rattle.cdi.proofs.Quiet.{impossible}
@@ -68,7 +68,7 @@ module _ (c : List ℕ) (s : Setting) (i : Bool) (bytes : List ℕ) (from to : �
     int-high g = omega (arith, own-length from to (s .size) bytes l h, int-most g k)
 
     module _ {z : Bool} (e : z ≡ isSigned (boundOf (ascii "min") (contentIn c (s .part)))) (w : Whole) (f : wholeOf w ≡ uncomplement z (length own) (valueOf own)) where
-      int-value : valueIn (settingIs c s) own ≡ accepted (integer (signed (w .negative) (w .magnitude)))
+      int-value : valueIn (settingIs c s) own ≡ accepted (integer (withSign (w .negative) (w .magnitude)))
       unfolding valueIn settingIs boundsOf wholeOf
       int-value = rw k (ap (λ x. accepted (integer x)) (sym (f ∙ rw (own-length from to (s .size) bytes l h, e) refl)))
 

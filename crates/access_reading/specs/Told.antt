@@ -5,7 +5,7 @@ use mathlib.Core.Bool.{Bool, true}
 use Prim.Native.Nat.{ℕ, _-_, _≤_, _<_}
 use lib.ListN.{length, take, drop}
 use Rattle.cdi.specs.Faults.{fault, Answer, accepted, refused, _andThen_, isAccepted}
-use Rattle.cdi.specs.Values.{signed}
+use Rattle.cdi.specs.Values.{withSign}
 use Rattle.cdi.specs.Access as A
 use Rattle.cdi.specs.Access.{Window, Value, integer, event, string, isInside, firstCause, writeCauses, valueIn}
 use Rattle.maps.specs.declared.Wanted.the-variants.{Event, Text}
@@ -15,7 +15,7 @@ use Rattle.access_reading.specs.declared.Reading.the-variants as reading
 
 -- an answer about a window with these bytes
 unfoldable pub readingOf : List ℕ → Reading → Answer A.Reading
-readingOf bytes (reading.Integer b m f) = accepted (record { value = integer (signed b m); writable = f })
+readingOf bytes (reading.Integer b m f) = accepted (record { value = integer (withSign b m); writable = f })
 readingOf bytes (reading.Event v f) = accepted (record { value = event v; writable = f })
 readingOf bytes (reading.Text i j f) = accepted (record { value = string (take (j - i) (drop i bytes)); writable = f })
 readingOf bytes (reading.Refused n p) = refused (fault n p)

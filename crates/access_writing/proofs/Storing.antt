@@ -11,7 +11,7 @@ use lib.IntN.{pos, negℤ}
 use lib.ListN.{length, take, drop, length-append, length-replicate}
 use Rattle.cdi.specs.Faults.{fault, accepted, refused, isAccepted}
 use Rattle.cdi.specs.Rules.{boundsOf, storable, smallest, largest}
-use Rattle.cdi.specs.Values.{signed, bytesOf, complement, padded}
+use Rattle.cdi.specs.Values.{withSign, bytesOf, complement, padded}
 use Rattle.cdi.specs.Access.{Window, kindOfValue, inBounds, firstCause, writeCauses, stored, overwritten, startIn, writeInto}
 use Rattle.cdi.proofs.Tests.{ends}
 use Rattle.cdi.proofs.Bytes.{length-bytes, eight-bits, halves}
@@ -75,8 +75,8 @@ limits true n l =
     (omega (arith, h), refl, omega (arith, h, down-negative (2 ^ (8 * n - 1))), up-negative (2 ^ (8 * n - 1)))
 limits false n l = (omega (arith, eight-bits n), refl, omega arith, refl)
 
-storable-size : (s : Bool) (n : ℕ) (b : Bool) (m : ℕ) → 1 ≤ n → storable s n (signed b m) ≡ true → m ≤ 256 ^ n
-unfolding storable signed up down
+storable-size : (s : Bool) (n : ℕ) (b : Bool) (m : ℕ) → 1 ≤ n → storable s n (withSign b m) ≡ true → m ≤ 256 ^ n
+unfolding storable withSign up down
 storable-size s n true m l h =
     let k = limits s n l in
     let low = le-up (smallest s n) (negℤ (pos m)) (ends (smallest s n) (largest s n) (negℤ (pos m)) h .0) in
@@ -136,7 +136,7 @@ module _ (c : List ℕ) {s : Setting} (g : Good c s) (space first : ℕ) (bytes 
         let k : s .kind ≡ 3 = sym (rw e at (all-passed .kind)) in
         let bs = boundsOf (s .size) (settingIs c s .content) in
         let l = int-least g k in
-        let f = storable-between (bs .signed) (s .size) (bs .min) (bs .max) (signed b m) (g .fits .low k) (g .fits .high k) (rw e at (all-passed .bounds)) in
+        let f = storable-between (bs .signed) (s .size) (bs .min) (bs .max) (withSign b m) (g .fits .low k) (g .fits .high k) (rw e at (all-passed .bounds)) in
         (int-most g k, storable-size (bs .signed) (s .size) b m l f)
     room-for (Event y) e = tt
     room-for Text e = let q = good-text (settingIs c s) t (rw e at (all-passed .text)) .short in omega arith

@@ -10,7 +10,7 @@ use lib.ListN.{length, drop, length-drop}
 use Rattle.cdi.specs.Words.{ascii, any, same, among}
 use Rattle.cdi.specs.Faults.{accepted}
 use Rattle.cdi.specs.Text.{content}
-use Rattle.cdi.specs.Markup.{reading}
+use Rattle.cdi.specs.Markup.{progress}
 use Rattle.cdi.specs.Tree.{Nodes, end, element, other, tree}
 use Rattle.cdi.specs.Rows.{Row, rowOf, documentRow, dataNames}
 use Rattle.cdi.specs.Rules.{Before, nothingBefore, behind, isInt, faultsIn, elementFaults}
@@ -95,8 +95,8 @@ accepted-planable b d e = by (stages b d e)
     by h =
         let cs = cut (h .text) in
         let t = tree cs in
-        let few = starts-few (length (h .text)) (reading [] 0) cs (h .marked) (omega arith) in
-        let deep = tree-deep (length (h .text)) (reading [] 0) cs (h .marked) in
+        let few = starts-few (length (h .text)) (progress [] 0) cs (h .marked) (omega arith) in
+        let deep = tree-deep (length (h .text)) (progress [] 0) cs (h .marked) in
         record {
           ranges = rw (h .told) at (described-fits documentRow false nothingBefore t t (h .ruled) deep);
           places = rw (h .told) at (rising-part 22 (described-part t t) (text-rises b (h .text) (h .ends)));

@@ -6,9 +6,9 @@ use native.Mathlib.Omega.{arith}
 use borrow.Author.Tests.{lt-ltb, le-ltb, ne-eqb}
 use lib.IntN.{ℤ}
 use Rattle.cdi.specs.Rules.{natural}
-use Rattle.cdi.specs.Walk.{Items, end, variable, group, Segment, records, afterSegment}
+use Rattle.cdi.specs.Walk.{Items, noItems, variable, group, Segment, records, afterSegment}
 use Rattle.cdi.specs.Table.{recordsFrom}
-use Rattle.cdi.specs.Plans.{nextOf, itemOf, itemsFrom, itemsIn, segmentOf, segmentsFrom}
+use Rattle.cdi.specs.Plans.{nextOf, itemOf, itemsFrom, itemsIn, recordSegment, segmentsFrom}
 use Rattle.cdi.proofs.Fit.{ItemsFit, SegmentsFit}
 use Rattle.cdi.proofs.Held.{Row, ItemsHeld, SegmentsHeld, length-segments}
 
@@ -37,8 +37,8 @@ is-group row members following = rw (row .kind, row .place, row .start, row .rep
 pub items-back : (t : List ℤ) (s : Items) (d k i e : ℕ) → ItemsFit d s → ItemsHeld t i s → e ≡ i + records s → records s ≤ k
     → itemsFrom t k i e ≡ s
 unfolding ItemsFit ItemsHeld records itemsFrom
-items-back t end d zero i e f h q b = refl
-items-back t end d (suc k) i e f h q b = rw (le-ltb i e (omega arith), itemsFrom)
+items-back t noItems d zero i e f h q b = refl
+items-back t noItems d (suc k) i e f h q b = rw (le-ltb i e (omega arith), itemsFrom)
 items-back t (variable kind p o n following) d zero i e f h q b = absurd (omega arith)
 items-back t (variable kind p o n following) d (suc k) i e f h q b =
     rw (lt-ltb i e (omega arith), itemsFrom, next-is (h .0), items-back t following d k (i + 1) e (f .4) (h .1) (omega arith) (omega arith))
@@ -56,8 +56,8 @@ items-back t (group p o r members following) d (suc k) i e f h q b =
     (is-group (h .0) members following)
 
 -- A segment is read back from the records that hold it.
-pub segment-back : (t : List ℤ) (i : ℕ) (g : Segment) (gs : List Segment) → SegmentsFit (g ∷ gs) → SegmentsHeld t i (g ∷ gs) → segmentOf t i ≡ g
-unfolding SegmentsFit SegmentsHeld segmentOf itemsIn natural afterSegment
+pub segment-back : (t : List ℤ) (i : ℕ) (g : Segment) (gs : List Segment) → SegmentsFit (g ∷ gs) → SegmentsHeld t i (g ∷ gs) → recordSegment t i ≡ g
+unfolding SegmentsFit SegmentsHeld recordSegment itemsIn natural afterSegment
 segment-back t i g gs f h =
     let x = i + 1 + records (g .items) in
     rw (h .0 .place, h .0 .size, h .0 .start, h .0 .next, items-back t (g .items) 3 (x - (i + 1)) (i + 1) x (f .2) (h .1) refl (omega arith))

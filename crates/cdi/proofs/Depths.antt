@@ -6,7 +6,7 @@ use Prim.Native.Nat.{ℕ, suc, _≤_}
 use native.Mathlib.Omega.{arith}
 use lib.ListN.{length}
 use Rattle.cdi.specs.Pieces.{Piece, start, finish, remark, refer, text, malformed, unsupported}
-use Rattle.cdi.specs.Markup.{Reading, pieceFaults, next, markupFaults}
+use Rattle.cdi.specs.Markup.{Progress, pieceFaults, next, markupFaults}
 use Rattle.cdi.specs.Tree.{Nodes, end, element, other, grow, levels, top, tree}
 use Rattle.cdi.proofs.Quiet.{empty-left, empty-right}
 use Rattle.cdi.proofs.Places.{start-fits}
@@ -28,7 +28,7 @@ LevelsDeep : List (List ℕ) → List Nodes → Type 0
 LevelsDeep ns [] = Unit
 LevelsDeep ns (f ∷ fs) = Deep (suc (length ns)) f × LevelsDeep (tail ns) fs
 
-grow-deep : (r : Reading) (p : ℕ) (c : Piece) (fs : List Nodes) → pieceFaults r p c ≡ [] → LevelsDeep (next r c .names) fs → LevelsDeep (r .names) (grow p c fs)
+grow-deep : (r : Progress) (p : ℕ) (c : Piece) (fs : List Nodes) → pieceFaults r p c ≡ [] → LevelsDeep (next r c .names) fs → LevelsDeep (r .names) (grow p c fs)
 unfolding grow next LevelsDeep Deep
 grow-deep r p c [] e h = tt
 grow-deep r p (start n s true) (f ∷ fs) e h = ((start-fits r p n s true e .0, tt, h .0), h .1)
@@ -41,7 +41,7 @@ grow-deep r p (text s) (f ∷ fs) e h = h
 grow-deep r p malformed (f ∷ fs) e h = h
 grow-deep r p unsupported (f ∷ fs) e h = h
 
-levels-deep : (stop : ℕ) (r : Reading) (cs : List (ℕ × Piece)) → markupFaults stop r cs ≡ [] → LevelsDeep (r .names) (levels cs)
+levels-deep : (stop : ℕ) (r : Progress) (cs : List (ℕ × Piece)) → markupFaults stop r cs ≡ [] → LevelsDeep (r .names) (levels cs)
 unfolding markupFaults levels LevelsDeep Deep
 levels-deep stop r [] e = (tt, tt)
 levels-deep stop r (c ∷ cs) e =
@@ -53,6 +53,6 @@ top-deep ns [] h = tt
 top-deep ns (f ∷ fs) h = h .0
 
 -- The tree of markup without faults keeps depth 24.
-pub tree-deep : (stop : ℕ) (r : Reading) (cs : List (ℕ × Piece)) → markupFaults stop r cs ≡ [] → Deep (suc (length (r .names))) (tree cs)
+pub tree-deep : (stop : ℕ) (r : Progress) (cs : List (ℕ × Piece)) → markupFaults stop r cs ≡ [] → Deep (suc (length (r .names))) (tree cs)
 unfolding tree
 tree-deep stop r cs e = top-deep (r .names) (levels cs) (levels-deep stop r cs e)

@@ -6,14 +6,14 @@ use mathlib.Core.Option.{none}
 use Prim.Native.Nat.{ℕ, _+_, _≤_}
 use lib.IntN.{pos}
 use lib.Dec.{leb}
-use Rattle.cdi.specs.Walk.{Items, end, variable, group, Segment, total}
+use Rattle.cdi.specs.Walk.{Items, noItems, variable, group, Segment, total}
 use Rattle.cdi.specs.Table.{recordsOf}
 use Rattle.cdi.specs.Plans.{sizeFits, offsetFits}
 use Rattle.cdi.specs.Planning.{leaving}
 
 -- data elements at depth d, in the ranges of document 01
 unfoldable pub ItemsFit : ℕ → Items → Type 0
-ItemsFit d end = Unit
+ItemsFit d noItems = Unit
 ItemsFit d (variable k p o n following) = (d ≤ 24) × (3 ≤ k) × (sizeFits k (pos n) ≡ true) × (offsetFits o ≡ true) × ItemsFit d following
 ItemsFit d (group p o r members following) =
     (d ≤ 24) × (offsetFits o ≡ true) × (1 ≤ r) × (r ≤ 2147483647) × ItemsFit (d + 1) members × ItemsFit d following
@@ -25,7 +25,7 @@ SegmentsFit (g ∷ gs) = (g .origin ≤ 2147483647) × (g .space ≤ 255) × Ite
 
 -- the places of the records, in their order
 unfoldable pub itemPlaces : Items → List ℕ
-itemPlaces end = []
+itemPlaces noItems = []
 itemPlaces (variable k p o n following) = p ∷ itemPlaces following
 itemPlaces (group p o r members following) = p ∷ (itemPlaces members ++ itemPlaces following)
 

@@ -13,7 +13,7 @@ use Rattle.cdi.specs.Words.{any}
 use Rattle.cdi.specs.Numbers.{within}
 use Rattle.cdi.specs.Faults.{Fault, fault}
 use Rattle.cdi.specs.Rules.{natural}
-use Rattle.cdi.specs.Walk.{Items, end, variable, group, Segment, records, Step, steps, count, change, segmentSteps, segmentKeeps, afterSegment}
+use Rattle.cdi.specs.Walk.{Items, noItems, variable, group, Segment, records, Step, steps, count, change, segmentSteps, segmentKeeps, afterSegment}
 use Rattle.cdi.specs.Table.{tableOf, recordsFrom, recordsOf}
 use Rattle.cdi.specs.Plans.{field, oneOf, sizeFits, offsetFits, replicationFits, placeFits, nextFits, itemFits, segmentFits, told, itemOf, itemsFrom, itemsGood, segmentsGood}
 use Rattle.cdi.specs.Planning.{leaving}
@@ -70,7 +70,7 @@ module _ {t : List ℤ} {i p : ℕ} {ps : List ℕ} (q : field t i 1 ≡ pos p) 
 -- past the records of data elements, which end at e
 past : (t : List ℤ) (s : Items) (i e : ℕ) (ps : List ℕ) → ItemsHeld t i s → e ≡ i + records s → Ahead t i (itemPlaces s ++ ps) → Ahead t e ps
 unfolding ItemsHeld itemPlaces records
-past t end i e ps h q a = subst (λ (j : ℕ). Ahead t j ps) (omega arith) a
+past t noItems i e ps h q a = subst (λ (j : ℕ). Ahead t j ps) (omega arith) a
 past t (variable k p o n following) i e ps h q a = past t following (i + 1) e ps (h .1) (omega arith) (onward (h .0 .place) a)
 past t (group p o r members following) i e ps h q a =
     let x = i + 1 + records members in
@@ -97,7 +97,7 @@ good-end t zero d i e h = refl
 good-end t (suc k) d i e h = rw (le-ltb i e h, itemsGood)
 
 good-more : {t : List ℤ} {i kind p n r x : ℕ} {o : ℤ} {s : Items} (k d e : ℕ) → Row t i kind p o n r x (count (steps i s)) (change (steps i s))
-    → i < e → d ≤ 24 → itemFits t i e ≡ true → itemOf t i (itemsFrom t k (i + 1) x) end ≡ s
+    → i < e → d ≤ 24 → itemFits t i e ≡ true → itemOf t i (itemsFrom t k (i + 1) x) noItems ≡ s
     → itemsGood t k (d + 1) (i + 1) x ≡ true → itemsGood t k d x e ≡ true → itemsGood t (suc k) d i e ≡ true
 unfolding itemsGood
 good-more {i} {s} k d e row h depth fits is inside following =
@@ -107,14 +107,14 @@ good-more {i} {s} k d e row h depth fits is inside following =
 items-good : (t : List ℤ) (s : Items) (d k i e : ℕ) (ps : List ℕ) → ItemsFit d s → ItemsHeld t i s → Ahead t i (itemPlaces s ++ ps)
     → e ≡ i + records s → records s ≤ k → itemsGood t k d i e ≡ true
 unfolding ItemsFit ItemsHeld itemPlaces records sizeFits replicationFits nextFits
-items-good t end d k i e ps f h a q b = good-end t k d i e (omega arith)
+items-good t noItems d k i e ps f h a q b = good-end t k d i e (omega arith)
 items-good t (variable kind p o n following) d zero i e ps f h a q b = absurd (omega arith)
 items-good t (variable kind p o n following) d (suc k) i e ps f h a q b =
     let row = h .0 in
     let other : eqb kind 2 ≡ false = ne-eqb kind 2 (omega arith) in
     good-more k d e row (omega arith) (f .0)
     (item-fits e row (f .2) (place-fits (row .place) a) (f .3) (rw other (only 1)) (rw other (only (i + 1))))
-    (is-variable row (f .1) (itemsFrom t k (i + 1) (i + 1)) end)
+    (is-variable row (f .1) (itemsFrom t k (i + 1) (i + 1)) noItems)
     (good-end t k (d + 1) (i + 1) (i + 1) (omega arith))
     (items-good t following d k (i + 1) e ps (f .4) (h .1) (onward (row .place) a) (omega arith) (omega arith))
 items-good t (group p o r members following) d zero i e ps f h a q b = absurd (omega arith)
@@ -125,7 +125,7 @@ items-good t (group p o r members following) d (suc k) i e ps f h a q b =
     let inner : Ahead t (i + 1) (itemPlaces members ++ qs) = rw append-assoc at (onward (row .place) a) in
     good-more k d e row (omega arith) (f .0)
     (item-fits e row (only 0) (place-fits (row .place) a) (f .1) (from-to (f .2) (f .3)) (from-to (omega arith) (omega arith)))
-    (is-group row (itemsFrom t k (i + 1) x) end ∙ rw (items-back t members (d + 1) k (i + 1) x (f .4) (h .1) refl (omega arith)))
+    (is-group row (itemsFrom t k (i + 1) x) noItems ∙ rw (items-back t members (d + 1) k (i + 1) x (f .4) (h .1) refl (omega arith)))
     (items-good t members (d + 1) k (i + 1) x qs (f .4) (h .1) inner refl (omega arith))
     (items-good t following d k x e ps (f .5) (h .2) (past t members (i + 1) x qs (h .1) refl inner) (omega arith) (omega arith))
 

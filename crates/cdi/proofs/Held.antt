@@ -6,7 +6,7 @@ use native.Mathlib.Omega.{arith}
 use lib.ListN.{length, drop, getD, length-append}
 use lib.Seq.{getD-drop, drop-drop, drop-append-seam}
 use lib.IntN.{ℤ, pos}
-use Rattle.cdi.specs.Walk.{Items, end, variable, group, Segment, records, steps, count, change, segmentSteps, afterSegment}
+use Rattle.cdi.specs.Walk.{Items, noItems, variable, group, Segment, records, steps, count, change, segmentSteps, afterSegment}
 use Rattle.cdi.specs.Table.{fields, itemRecords, segmentRecords, recordsFrom, tableOf}
 use Rattle.cdi.specs.Plans.{field}
 
@@ -14,7 +14,7 @@ use Rattle.cdi.specs.Plans.{field}
 
 length-items : (i : ℕ) (s : Items) → length (itemRecords i s) ≡ 8 * records s
 unfolding fields itemRecords records
-length-items i end = refl
+length-items i noItems = refl
 length-items i (variable k p o n following) = omega (arith, length-items (i + 1) following)
 length-items i (group p o r members following) =
     simp length-append (omega (arith, length-items (i + 1) members, length-items (i + 1 + records members) following))
@@ -41,12 +41,12 @@ pub record Row (t : List ℤ) (i k p : ℕ) (o : ℤ) (n r x c : ℕ) (z : ℤ) 
 
 -- the records of t from i on are those of the data elements
 unfoldable pub ItemsHeld : List ℤ → ℕ → Items → Type 0
-ItemsHeld t i end = Unit
+ItemsHeld t i noItems = Unit
 ItemsHeld t i (variable k p o n following) =
-    let w = steps i (variable k p o n end) in
+    let w = steps i (variable k p o n noItems) in
     Row t i k p o n 1 (i + 1) (count w) (change w) × ItemsHeld t (i + 1) following
 ItemsHeld t i (group p o r members following) =
-    let w = steps i (group p o r members end) in
+    let w = steps i (group p o r members noItems) in
     Row t i 2 p o 0 r (i + 1 + records members) (count w) (change w)
     × ItemsHeld t (i + 1) members × ItemsHeld t (i + 1 + records members) following
 
@@ -103,7 +103,7 @@ module _ {t : List ℤ} {i : ℕ} where
 
 items-held : (t : List ℤ) (i : ℕ) (s : Items) → Stands t i (itemRecords i s) → ItemsHeld t i s
 unfolding itemRecords ItemsHeld fields
-items-held t i end h = tt
+items-held t i noItems h = tt
 items-held t i (variable k p o n following) h = (row h, items-held t (i + 1) following (others h))
 items-held t i (group p o r members following) h =
     let kids = itemRecords (i + 1) members in

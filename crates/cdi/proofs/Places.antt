@@ -10,7 +10,7 @@ use lib.ListN.{length, length-append}
 use Rattle.cdi.specs.Words.{ascii, same, among}
 use Rattle.cdi.specs.Faults.{unless}
 use Rattle.cdi.specs.Pieces.{Attribute, Piece, start, finish, remark, refer, text, malformed, unsupported, pieceAt, pieces}
-use Rattle.cdi.specs.Markup.{Reading, outside, refers, pieceFaults, next, markupFaults}
+use Rattle.cdi.specs.Markup.{Progress, outside, refers, pieceFaults, next, markupFaults}
 use Rattle.cdi.specs.Tree.{Nodes, end, element, other, grow, levels, top, tree}
 use Rattle.cdi.specs.Walk.{Segment, records}
 use Rattle.cdi.specs.Walk as W
@@ -63,13 +63,13 @@ starts-rise at zero (x ∷ s) l =
     one-more (at + 0) at k (pieceAt (x ∷ s) .0) (startPlaces (pieces (at + 1) k s)) (omega arith) (omega arith) (starts-rise (at + 1) k s (omega arith))
 
 -- A start tag without faults stands above depth 25 and before element 4,097.
-pub start-fits : (r : Reading) (p : ℕ) (n : List ℕ) (s : List Attribute) (e : Bool) → pieceFaults r p (start n s e) ≡ [] → (length (r .names) < 24) × (r .begun < 4096)
+pub start-fits : (r : Progress) (p : ℕ) (n : List ℕ) (s : List Attribute) (e : Bool) → pieceFaults r p (start n s e) ≡ [] → (length (r .names) < 24) × (r .begun < 4096)
 unfolding pieceFaults
 start-fits r p n s e q =
     let h = passed _ _ (empty-right (unless (not (outside r && ltb 0 (r .begun))) _) _ (empty-right (unless (not (refers s)) _) _ q)) in
     (ltb-true _ _ (both-left _ _ h), ltb-true _ _ (both-right (ltb (length (r .names)) 24) _ h))
 
-one-begun : (r : Reading) (p : ℕ) (c : Piece) (ps : List ℕ) → pieceFaults r p c ≡ [] → r .begun ≤ 4096
+one-begun : (r : Progress) (p : ℕ) (c : Piece) (ps : List ℕ) → pieceFaults r p c ≡ [] → r .begun ≤ 4096
     → (next r c .begun ≤ 4096) × (r .begun + length (beginning p c ps) ≡ next r c .begun + length ps)
 unfolding next beginning
 one-begun r p (start n s e) ps q l = (omega (arith, start-fits r p n s e q .1), omega arith)
@@ -81,7 +81,7 @@ one-begun r p malformed ps q l = (l, refl)
 one-begun r p unsupported ps q l = (l, refl)
 
 -- Markup without faults begins at most 4,096 elements.
-pub starts-few : (stop : ℕ) (r : Reading) (cs : List (ℕ × Piece)) → markupFaults stop r cs ≡ [] → r .begun ≤ 4096 → r .begun + length (startPlaces cs) ≤ 4096
+pub starts-few : (stop : ℕ) (r : Progress) (cs : List (ℕ × Piece)) → markupFaults stop r cs ≡ [] → r .begun ≤ 4096 → r .begun + length (startPlaces cs) ≤ 4096
 unfolding markupFaults startPlaces
 starts-few stop r [] e l = omega arith
 starts-few stop r (c ∷ cs) e l =
@@ -169,7 +169,7 @@ described-few t (element p n s kids following) m l = omega (arith, part-length (
 
 items-length : (i : W.Items) → records i ≡ length (itemPlaces i)
 unfolding records itemPlaces
-items-length W.end = refl
+items-length W.noItems = refl
 items-length (W.variable k p o n following) = omega (arith, items-length following)
 items-length (W.group p o r members following) = omega (arith, items-length members, items-length following, length-append (itemPlaces members) (itemPlaces following))
 

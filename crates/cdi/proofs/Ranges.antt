@@ -15,7 +15,7 @@ use Rattle.cdi.specs.Pieces.{Attribute, Piece, pieces-page}
 use Rattle.cdi.specs.Tree.{Nodes, element, other}
 use Rattle.cdi.specs.Numbers.{number, within, numbers-page}
 use Rattle.cdi.specs.Rows.{Form, range, size, AttributeRule, Row, rowOf, optional, offset, dataNames, intSizes, floatSizes, rows-page}
-use Rattle.cdi.specs.Rules.{offTable, Before, nothingBefore, behind, valueOf, rangeFaults, formFaults, ruleFaults, rulesFaults, known, attributeFaults, missingFaults, numberFaults, intFaults, entryOf, childFaults, strayFaults, isKnown, isInt, ownFaults, faultsIn, natural, sizeText, sizeOf}
+use Rattle.cdi.specs.Rules.{offTable, Before, nothingBefore, behind, attributeValue, rangeFaults, formFaults, ruleFaults, rulesFaults, known, attributeFaults, missingFaults, numberFaults, intFaults, entryOf, childFaults, strayFaults, isKnown, isInt, ownFaults, faultsIn, natural, sizeText, sizeOf}
 use Rattle.cdi.specs.Table.{sameNumber}
 use Rattle.cdi.specs.Plans.{sizeFits, offsetFits, plans-page}
 use Rattle.cdi.specs.Planning.{numberOr, offsetOf, variableKind, variableSize, segmentOf}
@@ -98,7 +98,7 @@ rule n needed f = record { name = n; required = needed; form = f }
 range-rule : (p : ℕ) (lo hi z : ℤ) (needed : Bool) (n : List ℕ) (s : List Attribute) → within lo hi z ≡ true
     → ruleFaults p (rule n needed (range lo hi)) s ≡ [] → within lo hi (numberOr z n s) ≡ true
 unfolding ruleFaults formFaults rangeFaults numberOr
-range-rule p lo hi z needed n s h = there (valueOf n s)
+range-rule p lo hi z needed n s h = there (attributeValue n s)
   where
     read : (m : Option ℤ) → rangeFaults p (within lo hi) m ≡ [] → within lo hi (given m z (λ y. y)) ≡ true
     read none e = cc
@@ -112,7 +112,7 @@ range-rule p lo hi z needed n s h = there (valueOf n s)
 size-rule : (p : ℕ) (needed : Bool) (ts : List String) (s : List Attribute) → (not needed ≡ true → among (ascii "1") (map ascii ts) ≡ true)
     → ruleFaults p (rule (ascii "size") needed (size ts)) s ≡ [] → among (sizeText s) (map ascii ts) ≡ true
 unfolding ruleFaults formFaults sizeText
-size-rule p needed ts s h = there (valueOf (ascii "size") s)
+size-rule p needed ts s h = there (attributeValue (ascii "size") s)
   where
     there : (v : Option (List ℕ)) → given v (unless (not needed) (offTable p)) (formFaults p (size ts)) ≡ [] → among (given v (ascii "1") (λ w. w)) (map ascii ts) ≡ true
     there none e = h (passed _ _ e)
@@ -121,7 +121,7 @@ size-rule p needed ts s h = there (valueOf (ascii "size") s)
 -- A size under a rule for its range is a number in it.
 length-rule : (p : ℕ) (hi : ℕ) (s : List Attribute) → ruleFaults p (rule (ascii "size") true (range (pos 1) (pos hi))) s ≡ [] → within (pos 1) (pos hi) (pos (sizeOf s)) ≡ true
 unfolding ruleFaults formFaults rangeFaults sizeOf sizeText within natural
-length-rule p hi s = there (valueOf (ascii "size") s)
+length-rule p hi s = there (attributeValue (ascii "size") s)
   where
     read : (m : Option ℤ) → rangeFaults p (within (pos 1) (pos hi)) m ≡ [] → within (pos 1) (pos hi) (pos (given m 0 natural)) ≡ true
     read none e = cc

@@ -10,11 +10,11 @@ use lib.ListN.{length, take, length-take}
 use Rattle.cdi.specs.Words.{given, _>>=_, begins}
 use Rattle.cdi.specs.Faults.{fault, least, accepted, refused}
 use Rattle.cdi.specs.Text.{zeroFrom, endOf, content, badCharacter, firstLine}
-use Rattle.cdi.specs.Markup.{reading, markupFaults}
+use Rattle.cdi.specs.Markup.{progress, markupFaults}
 use Rattle.cdi.specs.Tree.{tree}
 use Rattle.cdi.specs.Rules.{elementFaults}
 use Rattle.cdi.specs.Walk.{total}
-use Rattle.cdi.specs.Planning.{Description, describe, ending, characters, opening, cut, markup, elements, leaving, addresses, counting, described}
+use Rattle.cdi.specs.Planning.{Description, describe, ending, characters, opening, cut, markup, elements, leaving, addressing, counting, described}
 use Rattle.cdi.proofs.Quiet.{impossible, quiet, through, stage-passed, test-passed}
 
 pub first-zero : (at : ℕ) (s : List ℕ) (e : ℕ) → zeroFrom at s ≡ some e → e < at + length s
@@ -42,7 +42,7 @@ content-short b c e = by (endOf b) refl e
 pub record Stages (b : List ℕ) (d : Description) : Type 0 where
   pub text : List ℕ
   pub ends : content b ≡ some text
-  pub marked : markupFaults (length text) (reading [] 0) (cut text) ≡ []
+  pub marked : markupFaults (length text) (progress [] 0) (cut text) ≡ []
   pub ruled : elementFaults (tree (cut text)) ≡ []
   pub told : describe (tree (cut text)) (tree (cut text)) ≡ d
   pub keeps : leaving 0 (d .segments) ≡ none
@@ -66,10 +66,10 @@ text-same c x e = by (badCharacter c) e
 
 -- An accepted text has passed every stage.
 pub stages : (b : List ℕ) (d : Description) → described b ≡ accepted d → Stages b d
-unfolding described opening markup elements addresses counting
+unfolding described opening markup elements addressing counting
 stages b d e =
     through _ counting d e λ v p counted.
-    through _ addresses v p λ u p stays.
+    through _ addressing v p λ u p stays.
     through _ elements u p λ t p ruled.
     through _ markup t p λ c p marked.
     through _ opening c p λ x p opened.
@@ -77,7 +77,7 @@ stages b d e =
     let g = test-passed (leb (total (v .segments)) 1000000) (fault 12 (v .root)) v d counted in
     let k = stage-passed (leaving 0 (u .segments)) u v stays in
     let r = stage-passed (least (elementFaults t)) (describe t t) u ruled in
-    let m = stage-passed (least (markupFaults (length c) (reading [] 0) (cut c))) (tree (cut c)) t marked in
+    let m = stage-passed (least (markupFaults (length c) (progress [] 0) (cut c))) (tree (cut c)) t marked in
     let o = test-passed (begins firstLine x) (fault 3 0) x c opened in
     record {
       text = c;

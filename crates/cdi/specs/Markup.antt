@@ -8,16 +8,16 @@ use Rattle.cdi.specs.Words.{any, all, while, same, isEmpty}
 use Rattle.cdi.specs.Faults.{Fault, fault, unless}
 use Rattle.cdi.specs.Pieces.{Attribute, Piece, start, finish, remark, refer, text, malformed, unsupported, blank}
 
--- how far the reading has come: the names of the open elements, innermost first, and how many elements were begun
-pub record Reading : Type 0 where
+-- how far reading has come: the names of the open elements, innermost first, and how many elements were begun
+pub record Progress : Type 0 where
   pub names : List (List ℕ)
   pub begun : ℕ
 
-abbrev pub reading : List (List ℕ) → ℕ → Reading
-reading ns b = record { names = ns; begun = b }
+abbrev pub progress : List (List ℕ) → ℕ → Progress
+progress ns b = record { names = ns; begun = b }
 
 -- before or after the root
-unfoldable pub outside : Reading → Bool
+unfoldable pub outside : Progress → Bool
 outside r = isEmpty (r .names)
 
 -- "any `&` in an attribute"
@@ -30,7 +30,7 @@ innermost (m ∷ ms) n = same m n
 
 -- 4 "malformed markup"; 5 "unsupported, as listed"; 6 "end tag without its start, second root, text or reference outside the root";
 -- 7 "depth 25, or element 4,097"
-unfoldable pub pieceFaults : Reading → ℕ → Piece → List Fault
+unfoldable pub pieceFaults : Progress → ℕ → Piece → List Fault
 pieceFaults r p (start n s e) =
     unless (not (refers s)) (fault 5 p)
     ++ (unless (not (outside r && ltb 0 (r .begun))) (fault 6 p)
@@ -42,20 +42,20 @@ pieceFaults r p (text s) = unless (not (outside r) || all blank s) (fault 6 (p +
 pieceFaults r p malformed = fault 4 p ∷ []
 pieceFaults r p unsupported = fault 5 p ∷ []
 
--- the reading behind a piece
-unfoldable pub next : Reading → Piece → Reading
-next r (start n s e) = reading (cond e (r .names) (n ∷ r .names)) (r .begun + 1)
-next r (finish n) = reading (tail (r .names)) (r .begun)
+-- how far it has come behind a piece
+unfoldable pub next : Progress → Piece → Progress
+next r (start n s e) = progress (cond e (r .names) (n ∷ r .names)) (r .begun + 1)
+next r (finish n) = progress (tail (r .names)) (r .begun)
 next r remark = r
 next r (refer c) = r
 next r (text s) = r
 next r malformed = r
 next r unsupported = r
 
--- all faults; `end` is the end of the content: "or unclosed or no root"
-unfoldable pub markupFaults : ℕ → Reading → List (ℕ × Piece) → List Fault
-markupFaults end r [] = unless (outside r && ltb 0 (r .begun)) (fault 6 end)
-markupFaults end r (c ∷ cs) = pieceFaults r (c .0) (c .1) ++ markupFaults end (next r (c .1)) cs
+-- all faults; the content ends at e: "or unclosed or no root"
+unfoldable pub markupFaults : ℕ → Progress → List (ℕ × Piece) → List Fault
+markupFaults e r [] = unless (outside r && ltb 0 (r .begun)) (fault 6 e)
+markupFaults e r (c ∷ cs) = pieceFaults r (c .0) (c .1) ++ markupFaults e (next r (c .1)) cs
 
 unfoldable pub markup-page : Unit {0}
 unfolding outside refers innermost pieceFaults next markupFaults

@@ -10,11 +10,11 @@ use Rattle.cdi.specs.Words.{ascii, _>>=_, given, same, among, begins}
 use Rattle.cdi.specs.Faults.{Fault, fault, least, Answer, accepted, refused, _andThen_, stage}
 use Rattle.cdi.specs.Text.{content, badCharacter, firstLine}
 use Rattle.cdi.specs.Pieces.{Attribute, Piece, pieces}
-use Rattle.cdi.specs.Markup.{reading, markupFaults}
+use Rattle.cdi.specs.Markup.{progress, markupFaults}
 use Rattle.cdi.specs.Tree.{Nodes, end, element, other, tree}
 use Rattle.cdi.specs.Numbers.{number}
 use Rattle.cdi.specs.Rows.{dataNames}
-use Rattle.cdi.specs.Rules.{valueOf, natural, sizeOf, elementFaults}
+use Rattle.cdi.specs.Rules.{attributeValue, natural, sizeOf, elementFaults}
 use Rattle.cdi.specs.Walk as W
 use Rattle.cdi.specs.Walk.{Items, Segment, segmentKeeps, afterSegment, total}
 use Rattle.cdi.specs.Table.{tableOf, recordsOf}
@@ -23,7 +23,7 @@ use Rattle.cdi.specs.Table.{tableOf, recordsOf}
 
 -- the number in an attribute, "else" the other
 unfoldable pub numberOr : ℤ → List ℕ → List Attribute → ℤ
-numberOr z n s = given (valueOf n s >>= number) z (λ y. y)
+numberOr z n s = given (attributeValue n s >>= number) z (λ y. y)
 
 unfoldable pub offsetOf : List Attribute → ℤ
 offsetOf s = numberOr (pos 0) (ascii "offset") s
@@ -38,7 +38,7 @@ variableSize n s = cond (same n (ascii "eventid")) 8 (sizeOf s)
 
 -- the data elements, in order
 unfoldable pub itemsOf : Nodes → Items
-itemsOf end = W.end
+itemsOf end = W.noItems
 itemsOf (other p c following) = itemsOf following
 itemsOf (element p n s kids following) =
     let asGroup = W.group p (offsetOf s) (natural (numberOr (pos 1) (ascii "replication") s)) (itemsOf kids) (itemsOf following) in
@@ -93,7 +93,7 @@ cut c = pieces 22 0 (drop 22 c)
 
 -- 4 to 7
 unfoldable pub markup : List ℕ → Answer Nodes
-markup c = stage (least (markupFaults (length c) (reading [] 0) (cut c))) (tree (cut c))
+markup c = stage (least (markupFaults (length c) (progress [] 0) (cut c))) (tree (cut c))
 
 -- 8 to 10
 unfoldable pub elements : Nodes → Answer Description
@@ -104,8 +104,8 @@ unfoldable pub leaving : ℕ → List Segment → Option Fault
 leaving i [] = none
 leaving i (g ∷ gs) = let r = leaving (afterSegment i g) gs in cond (segmentKeeps i g) r (some (fault 11 (g .place)))
 
-unfoldable pub addresses : Description → Answer Description
-addresses d = stage (leaving 0 (d .segments)) d
+unfoldable pub addressing : Description → Answer Description
+addressing d = stage (leaving 0 (d .segments)) d
 
 -- 12 "more than 1,000,000 variables": "`<` of cdi"
 unfoldable pub counting : Description → Answer Description
@@ -113,7 +113,7 @@ counting d = cond (leb (total (d .segments)) 1000000) (accepted d) (refused (fau
 
 -- stages 1 to 12, which know of no table
 unfoldable pub described : List ℕ → Answer Description
-described b = ending b andThen characters andThen opening andThen markup andThen elements andThen addresses andThen counting
+described b = ending b andThen characters andThen opening andThen markup andThen elements andThen addressing andThen counting
 
 -- "the number of records and of variables"
 pub record Counts : Type 0 where
@@ -142,5 +142,5 @@ tableAfter b t =
     ]
 
 unfoldable pub planning-page : Unit {0}
-unfolding numberOr offsetOf variableKind variableSize itemsOf segmentOf segmentsIn describe ending characters opening cut markup elements leaving addresses counting described countsOf room planned placed tableAfter
+unfolding numberOr offsetOf variableKind variableSize itemsOf segmentOf segmentsIn describe ending characters opening cut markup elements leaving addressing counting described countsOf room planned placed tableAfter
 planning-page = tt

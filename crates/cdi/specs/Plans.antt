@@ -10,7 +10,7 @@ use Rattle.cdi.specs.Words.{any}
 use Rattle.cdi.specs.Faults.{Answer, accepted, refused, fault}
 use Rattle.cdi.specs.Numbers.{within}
 use Rattle.cdi.specs.Rules.{natural}
-use Rattle.cdi.specs.Walk.{Items, end, variable, group, Segment, Step, steps, count, change, segmentSteps, segmentKeeps, Found, walk, total}
+use Rattle.cdi.specs.Walk.{Items, noItems, variable, group, Segment, Step, steps, count, change, segmentSteps, segmentKeeps, Found, walk, total}
 use Rattle.cdi.specs.Table.{sameNumber}
 
 -- number f of record i, both counted from 0: all that reads a table reads it by this
@@ -100,21 +100,21 @@ itemOf t i members following =
 
 -- the elements of the records from i to before e. (k bounds the steps, and e - i are enough.)
 unfoldable pub itemsFrom : List ℤ → ℕ → ℕ → ℕ → Items
-itemsFrom t zero i e = end
+itemsFrom t zero i e = noItems
 itemsFrom t (suc k) i e =
     let r = itemOf t i (itemsFrom t k (i + 1) (nextOf t i)) (itemsFrom t k (nextOf t i) e) in
-    cond (ltb i e) r end
+    cond (ltb i e) r noItems
 
 unfoldable pub itemsIn : List ℤ → ℕ → ℕ → Items
 itemsIn t i e = itemsFrom t (e - i) i e
 
-unfoldable pub segmentOf : List ℤ → ℕ → Segment
-segmentOf t i = record { place = placeOf t i; space = extraOf t i; origin = natural (startOf t i); items = itemsIn t (i + 1) (nextOf t i) }
+unfoldable pub recordSegment : List ℤ → ℕ → Segment
+recordSegment t i = record { place = placeOf t i; space = extraOf t i; origin = natural (startOf t i); items = itemsIn t (i + 1) (nextOf t i) }
 
 unfoldable pub segmentsFrom : List ℤ → ℕ → ℕ → ℕ → List Segment
 segmentsFrom t zero i e = []
 segmentsFrom t (suc k) i e =
-    let r = segmentOf t i ∷ segmentsFrom t k (nextOf t i) e in
+    let r = recordSegment t i ∷ segmentsFrom t k (nextOf t i) e in
     cond (ltb i e) r []
 
 unfoldable pub recordsIn : List ℤ → ℕ
@@ -130,7 +130,7 @@ unfoldable pub itemsGood : List ℤ → ℕ → ℕ → ℕ → ℕ → Bool
 itemsGood t zero d i e = true
 itemsGood t (suc k) d i e =
     let inside = itemsGood t k (d + 1) (i + 1) (nextOf t i) in
-    let tells = told t i (steps i (itemOf t i (itemsFrom t k (i + 1) (nextOf t i)) end)) in
+    let tells = told t i (steps i (itemOf t i (itemsFrom t k (i + 1) (nextOf t i)) noItems)) in
     let following = itemsGood t k d (nextOf t i) e in
     let r = leb d 24 && (itemFits t i e && (inside && (tells && following))) in
     cond (ltb i e) r true
@@ -140,7 +140,7 @@ unfoldable pub segmentsGood : List ℤ → ℕ → ℕ → ℕ → Bool
 segmentsGood t zero i e = true
 segmentsGood t (suc k) i e =
     let inside = itemsGood t (nextOf t i - (i + 1)) 3 (i + 1) (nextOf t i) in
-    let tells = told t i (segmentSteps i (segmentOf t i)) && segmentKeeps i (segmentOf t i) in
+    let tells = told t i (segmentSteps i (recordSegment t i)) && segmentKeeps i (recordSegment t i) in
     let following = segmentsGood t k (nextOf t i) e in
     let r = segmentFits t i e && (inside && (tells && following)) in
     cond (ltb i e) r true
@@ -162,5 +162,5 @@ unfoldable pub locating : List ℤ → ℕ → Answer Found
 locating t n = let r = variableOf (segmentsOf t) n in cond (isPlan t) r (refused (fault 20 0))
 
 unfoldable pub plans-page : Unit {0}
-unfolding field oneOf sizeFits offsetFits replicationFits placeFits nextFits itemFits segmentFits told itemOf itemsFrom itemsIn segmentOf segmentsFrom recordsIn segmentsOf itemsGood segmentsGood isPlan variableOf locating
+unfolding field oneOf sizeFits offsetFits replicationFits placeFits nextFits itemFits segmentFits told itemOf itemsFrom itemsIn recordSegment segmentsFrom recordsIn segmentsOf itemsGood segmentsGood isPlan variableOf locating
 plans-page = tt

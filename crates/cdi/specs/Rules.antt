@@ -29,9 +29,9 @@ outOfRange p = fault 10 p
 -- ── attributes: "`<` of the tag" ──
 
 -- the value of the attribute of that name
-unfoldable pub valueOf : List ℕ → List Attribute → Option (List ℕ)
-valueOf n [] = none
-valueOf n (a ∷ s) = let r = valueOf n s in cond (same n (a .name)) (some (a .value)) r
+unfoldable pub attributeValue : List ℕ → List Attribute → Option (List ℕ)
+attributeValue n [] = none
+attributeValue n (a ∷ s) = let r = attributeValue n s in cond (same n (a .name)) (some (a .value)) r
 
 unfoldable pub isFormatting : List ℕ → Bool
 isFormatting v =
@@ -50,7 +50,7 @@ formFaults p (size ts) v = unless (among v (map ascii ts)) (outOfRange p)
 formFaults p formatting v = unless (isFormatting v) (offTable p)
 
 unfoldable pub ruleFaults : ℕ → AttributeRule → List Attribute → List Fault
-ruleFaults p a s = given (valueOf (a .name) s) (unless (not (a .required)) (offTable p)) (formFaults p (a .form))
+ruleFaults p a s = given (attributeValue (a .name) s) (unless (not (a .required)) (offTable p)) (formFaults p (a .form))
 
 unfoldable pub rulesFaults : ℕ → List AttributeRule → List Attribute → List Fault
 rulesFaults p [] s = []
@@ -204,7 +204,7 @@ sound r n b (element p m s kids following) =
 
 -- an int's size: its text where it has one, else 1
 unfoldable pub sizeText : List Attribute → List ℕ
-sizeText s = given (valueOf (ascii "size") s) (ascii "1") (λ v. v)
+sizeText s = given (attributeValue (ascii "size") s) (ascii "1") (λ v. v)
 
 -- "both tested only where the int's size, min and max have no other fault"
 unfoldable pub tested : List Attribute → Nodes → Bool
@@ -250,5 +250,5 @@ unfoldable pub elementFaults : Nodes → List Fault
 elementFaults t = faultsIn documentRow false nothingBefore t
 
 unfoldable pub rules-page : Unit {0}
-unfolding valueOf isFormatting rangeFaults formFaults ruleFaults rulesFaults known attributeFaults nothingBefore entryFrom entryOf childFaults behind hasChild missingFaults strayFaults ownText ownNumber numberNames numberFaults boundOf isSigned largest smallest storable boundsOf boundFaults sound sizeText tested natural sizeOf isInt intFaults ownFaults isKnown faultsIn elementFaults
+unfolding attributeValue isFormatting rangeFaults formFaults ruleFaults rulesFaults known attributeFaults nothingBefore entryFrom entryOf childFaults behind hasChild missingFaults strayFaults ownText ownNumber numberNames numberFaults boundOf isSigned largest smallest storable boundsOf boundFaults sound sizeText tested natural sizeOf isInt intFaults ownFaults isKnown faultsIn elementFaults
 rules-page = tt

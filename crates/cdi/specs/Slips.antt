@@ -8,16 +8,16 @@ use lib.IntN.{pos}
 use lib.ListN.{replicate}
 use Rattle.cdi.specs.Faults.{fault, least}
 use Rattle.cdi.specs.Text.{content}
-use Rattle.cdi.specs.Values.{signed}
+use Rattle.cdi.specs.Values.{withSign}
 use Rattle.cdi.specs.Access.{integer}
 use Rattle.cdi.specs.Worked.{all-pages, opened, single, Ask, plans, writes, Told, refusal, values, toldOf, lent, window, answer}
 
-unfoldable pub cases : List (Ask × Told)
-cases =
+unfoldable pub slips : List (Ask × Told)
+slips =
     -- an int is not signed because min is present: 200 can be stored
-    (writes "<int><min>0</min><max>200</max></int>" 1 (integer (signed false 200)), values (map pos (200 ∷ [])))
+    (writes "<int><min>0</min><max>200</max></int>" 1 (integer (withSign false 200)), values (map pos (200 ∷ [])))
     -- minus zero is not below zero
-    ∷ (writes "<int><min>-0</min><max>200</max></int>" 1 (integer (signed true 0)), values (map pos (0 ∷ [])))
+    ∷ (writes "<int><min>-0</min><max>200</max></int>" 1 (integer (withSign true 0)), values (map pos (0 ∷ [])))
     -- 04 is a number and no size
     ∷ (plans (single "<int size=\"04\"/>") 16, refusal 10 174)
     -- the smaller place speaks, though a smaller number stands behind it
@@ -33,8 +33,8 @@ cases =
     )
     ∷ []
 
-pub come-out : map (λ c. answer (c .0)) cases ≡ map (λ c. c .1) cases
-unfolding all-pages opened single toldOf lent window answer cases
+pub come-out : map (λ c. answer (c .0)) slips ≡ map (λ c. c .1) slips
+unfolding all-pages opened single toldOf lent window answer slips
 come-out = refl
 
 -- of several faults the one at the smallest place, and there the one with the smallest number

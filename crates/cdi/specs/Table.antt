@@ -4,7 +4,7 @@ use mathlib.Core.Bool.{Bool, true, false, _&&_}
 use Prim.Native.Nat.{ℕ, _+_}
 use lib.IntN.{ℤ, pos, negsuc}
 use lib.Dec.{eqb}
-use Rattle.cdi.specs.Walk.{Items, end, variable, group, Segment, records, Step, steps, count, change, segmentSteps, afterSegment}
+use Rattle.cdi.specs.Walk.{Items, noItems, variable, group, Segment, records, Step, steps, count, change, segmentSteps, afterSegment}
 
 -- "kind (1 segment, 2 group, 3 int, 4 string, 5 eventid, 6 float); place of its `<`; origin or offset; space, 0 for a group, or size; replication
 -- or 1; number of the record after its subtree; variables in all copies; change of the current address over all copies, its own offset included"
@@ -14,10 +14,10 @@ fields kind place start size replication next walked =
 
 -- the records of data elements, of which the first has number i
 unfoldable pub itemRecords : ℕ → Items → List ℤ
-itemRecords i end = []
-itemRecords i (variable k p o n following) = fields k p o n 1 (i + 1) (steps i (variable k p o n end)) ++ itemRecords (i + 1) following
+itemRecords i noItems = []
+itemRecords i (variable k p o n following) = fields k p o n 1 (i + 1) (steps i (variable k p o n noItems)) ++ itemRecords (i + 1) following
 itemRecords i (group p o r members following) =
-    fields 2 p o 0 r (i + 1 + records members) (steps i (group p o r members end))
+    fields 2 p o 0 r (i + 1 + records members) (steps i (group p o r members noItems))
     ++ (itemRecords (i + 1) members ++ itemRecords (i + 1 + records members) following)
 
 -- "for a segment, last address minus origin"

@@ -7,8 +7,8 @@ use lib.Dec.{leb, ltb}
 use lib.IntN.{ℤ, pos, negsuc, negℤ}
 
 -- "An integer comes in as a sign and a 64-bit magnitude; minus zero is zero."
-unfoldable pub signed : Bool → ℕ → ℤ
-signed negative m = cond negative (negℤ (pos m)) (pos m)
+unfoldable pub withSign : Bool → ℕ → ℤ
+withSign negative m = cond negative (negℤ (pos m)) (pos m)
 
 -- "big-endian over the whole size"
 unfoldable pub bytesOf : ℕ → ℕ → List ℕ
@@ -45,5 +45,5 @@ utf8 c =
     ((240 + c / 262144) ∷ (128 + c / 4096 % 64) ∷ (128 + c / 64 % 64) ∷ (128 + c % 64) ∷ [])))
 
 unfoldable pub values-page : Unit {0}
-unfolding signed bytesOf valueFrom valueOf complement uncomplement padded utf8
+unfolding withSign bytesOf valueFrom valueOf complement uncomplement padded utf8
 values-page = tt

@@ -10,7 +10,7 @@ use Rattle.cdi.specs.Rules.{natural}
 -- the data elements of a segment or a group, in order
 pub data Items : Type 0 where
   -- nothing more
-  end : Items
+  noItems : Items
   -- a variable: its kind, place, offset and size; then what follows it
   variable : ℕ → ℕ → ℤ → ℕ → Items → Items
   -- a group: its place, offset and replication; its members; then what follows it
@@ -24,7 +24,7 @@ pub record Segment : Type 0 where
 
 -- "one record for each segment and data element in document order": those of the data elements
 unfoldable pub records : Items → ℕ
-records end = 0
+records noItems = 0
 records (variable k p o n following) = 1 + records following
 records (group p o r members following) = 1 + records members + records following
 
@@ -43,7 +43,7 @@ copies (suc r) s = s ++ copies r s
 -- "A data element first adds its offset. A variable then stands at the current address and adds its size. A group adds its offset once, then
 -- its members are walked replication times, member offsets added in every copy." The first element has record i
 unfoldable pub steps : ℕ → Items → List Step
-steps i end = []
+steps i noItems = []
 steps i (variable k p o n following) = add o ∷ stand k i n ∷ steps (i + 1) following
 steps i (group p o r members following) = add o ∷ (copies r (steps (i + 1) members) ++ steps (i + 1 + records members) following)
 

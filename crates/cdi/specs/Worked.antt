@@ -19,7 +19,7 @@ use Rattle.cdi.specs.Walk.{Found, walk-page}
 use Rattle.cdi.specs.Table.{table-page}
 use Rattle.cdi.specs.Plans.{locating, plans-page}
 use Rattle.cdi.specs.Planning.{planned, tableAfter, planning-page}
-use Rattle.cdi.specs.Values.{signed, values-page}
+use Rattle.cdi.specs.Values.{withSign, values-page}
 use Rattle.cdi.specs.Access.{Window, Value, integer, string, written, windowAfter, access-page}
 
 -- opens every page
@@ -102,10 +102,10 @@ cases =
     -- P3
     ∷ (locates T 48 8, refusal 21 0)
     -- P4 to P10
-    ∷ (writes "<int size=\"2\"/>" 2 (integer (signed false 300)), values (map pos (0x01 ∷ 0x2C ∷ [])))
-    ∷ (writes "<int><min>-5</min></int>" 1 (integer (signed true 1)), values (map pos (0xFF ∷ [])))
-    ∷ (writes "<int/>" 1 (integer (signed false 256)), refusal 23 0)
-    ∷ (writes "<int size=\"8\"/>" 8 (integer (signed false (2 ^ 64 - 1))), values (map pos (replicate 8 0xFF)))
+    ∷ (writes "<int size=\"2\"/>" 2 (integer (withSign false 300)), values (map pos (0x01 ∷ 0x2C ∷ [])))
+    ∷ (writes "<int><min>-5</min></int>" 1 (integer (withSign true 1)), values (map pos (0xFF ∷ [])))
+    ∷ (writes "<int/>" 1 (integer (withSign false 256)), refusal 23 0)
+    ∷ (writes "<int size=\"8\"/>" 8 (integer (withSign false (2 ^ 64 - 1))), values (map pos (replicate 8 0xFF)))
     ∷ (plans (single "<int><min>-1</min><max>128</max></int>") 16, refusal 10 192)
     ∷ (writes "<string size=\"4\"/>" 4 (string (ascii "AB")), values (map pos (0x41 ∷ 0x42 ∷ 0x00 ∷ 0x00 ∷ [])))
     ∷ (writes "<string size=\"4\"/>" 4 (string (ascii "ABCD")), refusal 25 0)

@@ -6,7 +6,7 @@ use Prim.Native.Nat.{ℕ, zero, suc}
 use borrow.Author.Needs.{needs}
 use lib.IntN.{natAbs}
 use Rattle.cdi.specs.Faults.{Answer}
-use Rattle.cdi.specs.Values.{signed}
+use Rattle.cdi.specs.Values.{withSign}
 use Rattle.cdi.specs.Access as A
 use Rattle.access_checked.specs.Told.{checkedOf}
 use Rattle.access_writing.specs.Told.{writtenOf}
@@ -47,8 +47,8 @@ module _ (r : Reading) (bytes : List ℕ) {x : ℕ} {a : Answer A.Reading} where
   pub told-magnitude : x ≡ magnitudeIn (readingOf [] r) → readingOf bytes r ≡ a → x ≡ magnitudeIn a
   told-magnitude p q = p ∙ magnitude-apart r bytes ∙ ap magnitudeIn q
 
-signed-magnitude : (b : Bool) (m : ℕ) → m ≡ natAbs (signed b m)
-unfolding signed natAbs
+signed-magnitude : (b : Bool) (m : ℕ) → m ≡ natAbs (withSign b m)
+unfolding withSign natAbs
 signed-magnitude false m = refl
 signed-magnitude true zero = refl
 signed-magnitude true (suc m) = refl

@@ -7,7 +7,7 @@ use native.Mathlib.Decide.{decLt}
 use lib.IntN.{ℤ, pos, negsuc}
 use Rattle.cdi.specs.Walk.{Step, Items, steps, records, copies}
 use Rattle.cdi.specs.Walk.Step.{add, stand}
-use Rattle.cdi.specs.Walk.Items.{end, variable, group}
+use Rattle.cdi.specs.Walk.Items.{noItems, variable, group}
 use Rattle.extent.specs.Reach.{extent, Sound, nowhere, byOffset, bySize, byStep, join, repeat, extentOf}
 use Rattle.extent.specs.declared.Extent.{Extent}
 
@@ -135,7 +135,7 @@ copies-alike (suc m) s t e = extent-copies m s ∙ rw e (sym (extent-copies m t)
 
 pub extent-anywhere : (s : Items) (i j : ℕ) → extentOf (steps i s) ≡ extentOf (steps j s)
 unfolding steps extentOf byStep
-extent-anywhere end i j = refl
+extent-anywhere noItems i j = refl
 extent-anywhere (variable k p o n following) i j = rw (extent-anywhere following (i + 1) (j + 1))
 extent-anywhere (group p o r members following) i j =
     ap (λ (e : Extent). join (byOffset o) e)

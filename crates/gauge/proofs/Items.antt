@@ -84,24 +84,24 @@ module _ (m : ℕ) (l : Leaves) where
   module _ (ss : List Step) (i : ℕ) (t : List ℤ) where
     behind-group : (p : ℕ) (o : ℤ) (r : ℕ) (members following : Items)
         → (let j = i + 1 + records members in
-        let own = steps i (W.group p o r members W.end) in
+        let own = steps i (W.group p o r members W.noItems) in
         after (ss ++ own) j (sets (sets t ((i + 1) * 8) (heldItems (i + 1) members)) (i * 8) (heldFields 2 p o 0 r j own)) following)
         ≡ after ss i t (W.group p o r members following)
     unfolding steps records heldItems heldFields
     behind-group p o r members following =
         let j = i + 1 + records members in
-        let row = heldFields 2 p o 0 r j (steps i (W.group p o r members W.end)) in
+        let row = heldFields 2 p o 0 r j (steps i (W.group p o r members W.noItems)) in
         alike (simp append-assoc)
         (omega arith)
         (sets-three t (i * 8) ((i + 1) * 8) (j * 8) row (heldItems (i + 1) members) (heldItems j following) (omega arith) (omega (arith, length-held (i + 1) members)))
 
     behind-variable : (k p : ℕ) (o : ℤ) (n : ℕ) (following : Items)
-        → (let own = steps i (W.variable k p o n W.end) in
+        → (let own = steps i (W.variable k p o n W.noItems) in
         after (ss ++ own) (i + 1) (sets t (i * 8) (heldFields k p o n 1 (i + 1) own)) following)
         ≡ after ss i t (W.variable k p o n following)
     unfolding steps records heldItems heldFields
     behind-variable k p o n following =
-        let row = heldFields k p o n 1 (i + 1) (steps i (W.variable k p o n W.end)) in
+        let row = heldFields k p o n 1 (i + 1) (steps i (W.variable k p o n W.noItems)) in
         alike (simp append-assoc) (omega arith) (sym (sets-append t (i * 8) ((i + 1) * 8) row (heldItems (i + 1) following) (omega arith)))
 
   -- ── the tree ──

@@ -6,7 +6,7 @@ use native.Mathlib.Omega.{arith}
 use lib.IntN.{ℤ, pos}
 use lib.ListN.{length, length-append}
 use Rattle.cdi.specs.Walk.{Items, Step, Segment, records, copies, steps, segmentSteps, afterSegment}
-use Rattle.cdi.specs.Walk.Items.{end, variable, group}
+use Rattle.cdi.specs.Walk.Items.{noItems, variable, group}
 use Rattle.cdi.specs.Walk.Step.{add, stand}
 use Rattle.cdi.specs.Table.{fields, itemRecords}
 use Rattle.extent.specs.Reach.{extentOf, held}
@@ -21,10 +21,10 @@ heldFields kind place start size replication next walked =
 
 -- the records of data elements, of which the first has number i
 unfoldable pub heldItems : ℕ → Items → List ℤ
-heldItems i end = []
-heldItems i (variable k p o n following) = heldFields k p o n 1 (i + 1) (steps i (variable k p o n end)) ++ heldItems (i + 1) following
+heldItems i noItems = []
+heldItems i (variable k p o n following) = heldFields k p o n 1 (i + 1) (steps i (variable k p o n noItems)) ++ heldItems (i + 1) following
 heldItems i (group p o r members following) =
-    heldFields 2 p o 0 r (i + 1 + records members) (steps i (group p o r members end))
+    heldFields 2 p o 0 r (i + 1 + records members) (steps i (group p o r members noItems))
     ++ (heldItems (i + 1) members ++ heldItems (i + 1 + records members) following)
 
 -- the records of segments, of which the first has number i
@@ -37,7 +37,7 @@ heldSegments i (g ∷ gs) =
 -- The records of data elements fill eight numbers each.
 pub length-held : (i : ℕ) (s : Items) → length (heldItems i s) ≡ 8 * records s
 unfolding heldFields heldItems records
-length-held i end = refl
+length-held i noItems = refl
 length-held i (variable k p o n following) = omega (arith, length-held (i + 1) following)
 length-held i (group p o r members following) =
     simp length-append (omega (arith, length-held (i + 1) members, length-held (i + 1 + records members) following))
@@ -49,14 +49,14 @@ fields-told k p o n r x s h = rw (change-told s h, count-told s h)
 
 -- every replication is at least 1
 unfoldable pub Repeated : Items → Type 0
-Repeated end = Unit
+Repeated noItems = Unit
 Repeated (variable k p o n following) = Repeated following
 Repeated (group p o r members following) = (1 ≤ r) × Repeated members × Repeated following
 
 -- The records of data elements whose walk is plain are those of the table.
 pub items-told : (i : ℕ) (s : Items) → Repeated s → Plain (steps i s) → heldItems i s ≡ itemRecords i s
 unfolding heldItems itemRecords steps Repeated
-items-told i end q h = refl
+items-told i noItems q h = refl
 items-told i (variable k p o n following) q h =
     ap₂ _++_
     (fields-told k p o n 1 (i + 1) _ (plain-first (add o ∷ stand k i n ∷ []) (steps (i + 1) following) h))

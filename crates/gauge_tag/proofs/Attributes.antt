@@ -14,13 +14,13 @@ use mir.ValLaws.{toZ-pos}
 use Rattle.cdi.specs.Words.{ascii, _>>=_, given, isEmpty, all, begins, strip, between}
 use Rattle.cdi.specs.Pieces.{Attribute, digit, decimal}
 use Rattle.cdi.specs.Numbers.{digits, number, within}
-use Rattle.cdi.specs.Rules.{valueOf, natural, sizeText, sizeOf}
+use Rattle.cdi.specs.Rules.{attributeValue, natural, sizeText, sizeOf}
 use Rattle.cdi.specs.Plans.{offsetFits}
 use Rattle.cdi.specs.Planning.{numberOr, offsetOf}
+use Rattle.cdi.specs.Values.{withSign}
 use Rattle.cdi.proofs.Tests.{ends, both-left, both-right}
 use Rattle.cdi.proofs.Signs.{up, down, le-up}
 use Rattle.extent.proofs.Signed.{read, read-is}
-use Rattle.numbers.specs.Held.{withSign}
 use Rattle.gauge_tag.specs.Gauging.{from-to}
 use Rattle.gauge_tag.specs.Numbered.{Ranged, naturalIn, offsetIn, sizeBy, numbersBy}
 
@@ -78,7 +78,7 @@ module _ (k : ℕ) (s : List Attribute) where
 
   pub size-other : {r : ℕ} → (k ≡ 8 → ⊥) → r ≡ naturalIn 1 65535 (ascii "size") s → r ≡ sizeBy k s
   unfolding sizeBy naturalIn numberOr sizeOf sizeText
-  size-other e h = h ∙ sized (valueOf (ascii "size") s) ∙ sym (rw (ne-eqb k 8 e))
+  size-other e h = h ∙ sized (attributeValue (ascii "size") s) ∙ sym (rw (ne-eqb k 8 e))
 
 -- ── the numbers of a tag ──
 
@@ -128,9 +128,9 @@ module _ (k : ℕ) where
   bare-other e = size-other k [] e none-there
     where
       none-there : 1 ≡ naturalIn 1 65535 (ascii "size") []
-      none-there = unfold naturalIn numberOr valueOf from-to between natural in refl
+      none-there = unfold naturalIn numberOr attributeValue from-to between natural in refl
 
 module _ (k : ℕ) {a : ℕ} (p : a ≡ sizeBy k []) where
   pub bare-are : record { offset = pos 0; size = a; replication = 1; origin = 0; space = 0 } ≡ numbersBy k []
-  unfolding numbersBy naturalIn offsetIn offsetOf offsetFits numberOr valueOf from-to between natural within
+  unfolding numbersBy naturalIn offsetIn offsetOf offsetFits numberOr attributeValue from-to between natural within
   bare-are = rw p

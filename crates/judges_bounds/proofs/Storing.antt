@@ -12,9 +12,10 @@ use lib.Signed.{leZ, ltZ}
 use Rattle.cdi.specs.Faults.{Fault, fault, unless, lesser, least}
 use Rattle.cdi.specs.Numbers.{within}
 use Rattle.cdi.specs.Rules.{smallest, largest, storable}
+use Rattle.cdi.specs.Values.{withSign}
 use Rattle.cdi.proofs.Tests.{both-left, both-right}
 use Rattle.keys.specs.Keys.{faultIn}
-use Rattle.numbers.specs.Held.{sizeOf, withSign, nearest, lowOf, highOf}
+use Rattle.numbers.specs.Held.{sizeOf, nearest, lowOf, highOf}
 use Rattle.numbers.specs.declared.Signed.{Signed}
 use Rattle.numbers.proofs.Ranges.{both-below, both-above, second-below, first-below, wholly-above}
 use Rattle.rules_judge.specs.Judging.{blamed, fromWhole, boundBlame}

@@ -7,7 +7,7 @@ ghost use mathlib.Core.Bool.{not, _||_};
 ghost use Prim.Native.Nat.{_*_, _-_, _^_, _≤_};
 ghost use lib.Signed.{leZ};
 ghost use Rattle.cdi.specs.Rules.{storable};
-ghost use Rattle.numbers.specs.Held.{withSign};
+ghost use Rattle.cdi.specs.Values.{withSign};
 ghost use Rattle.rules_judge.specs.Judging.{blamed, boundBlame};
 ghost use Rattle.judges_state.specs.Decoded.{leastIn, judgeOf, Placed};
 ghost use Rattle.judges_state.specs.Steps.{sizeAt};

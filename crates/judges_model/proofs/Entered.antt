@@ -13,7 +13,7 @@ use Rattle.cdi.specs.Words.{given, all}
 use Rattle.cdi.specs.Faults.{Fault, fault, unless, before, lesser, least}
 use Rattle.cdi.specs.Pieces.{Attribute}
 use Rattle.cdi.specs.Rows.{Form, fixed, range, size, formatting, AttributeRule, Row}
-use Rattle.cdi.specs.Rules.{offTable, valueOf, rangeFaults, formFaults, ruleFaults, rulesFaults, known, attributeFaults}
+use Rattle.cdi.specs.Rules.{offTable, attributeValue, rangeFaults, formFaults, ruleFaults, rulesFaults, known, attributeFaults}
 use Rattle.cdi.proofs.Least.{lesser-assoc, least-append}
 use Rattle.scan.proofs.Tests.{eq-or-ne}
 use Rattle.names.specs.Names.{elementNumber}
@@ -60,7 +60,7 @@ module _ (p : ℕ) where
 
   rule-behind : (a : AttributeRule) (s : List Attribute) → Behind p (ruleFaults p a s)
   unfolding ruleFaults
-  rule-behind a s = by (valueOf (a .name) s)
+  rule-behind a s = by (attributeValue (a .name) s)
     where
       by : (o : Option (List ℕ)) → Behind p (given o (unless (not (a .required)) (offTable p)) (formFaults p (a .form)))
       by none = behind-unless (not (a .required)) 8 refl

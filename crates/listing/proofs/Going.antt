@@ -169,7 +169,7 @@ module _ {t : List ℤ} {space from end origin r skip room filled i a again left
       x = nextOf t i
 
       abbrev S : List Step
-      S = steps i (itemOf t i (itemsIn t (i + 1) (nextOf t i)) Items.end)
+      S = steps i (itemOf t i (itemsIn t (i + 1) (nextOf t i)) Items.noItems)
 
       abbrev own : Extent
       own = elementExtent t i (itemsExtent t (i + 1) (nextOf t i))

@@ -11,7 +11,7 @@ use lib.IntN.{ℤ, pos}
 use Rattle.cdi.specs.Rules.{natural}
 use Rattle.cdi.specs.Walk.{Found, Step, steps, copies, count, segmentSteps, segmentKeeps, afterSegment, walkFrom, walk, total}
 use Rattle.cdi.specs.Table.{sameNumber}
-use Rattle.cdi.specs.Plans.{field, extraOf, nextOf, segmentFits, told, itemsIn, segmentOf, segmentsFrom, recordsIn, segmentsOf, segmentsGood, isPlan}
+use Rattle.cdi.specs.Plans.{field, extraOf, nextOf, segmentFits, told, itemsIn, recordSegment, segmentsFrom, recordsIn, segmentsOf, segmentsGood, isPlan}
 use Rattle.cdi.proofs.Tests.{parts, both-left, both-right}
 use Rattle.cdi.proofs.Signs.{same-number}
 use Rattle.extent.proofs.Joins.{repeat-once}
@@ -76,8 +76,8 @@ module _ {t : List ℤ} {n end room i left k : ℕ} {o₀ o : List ℕ} (v : Lis
     more : v .enough ≡ suc (pred (v .enough))
     more = omega (arith, v .spare)
 
-    told-all : (segmentFits t i end ≡ true) × (goodIn t 3 (i + 1) (nextOf t i) ≡ true) × (told t i (segmentSteps i (segmentOf t i)) ≡ true)
-        × (segmentKeeps i (segmentOf t i) ≡ true) × (segmentsGood t (pred (v .enough)) (nextOf t i) end ≡ true)
+    told-all : (segmentFits t i end ≡ true) × (goodIn t 3 (i + 1) (nextOf t i) ≡ true) × (told t i (segmentSteps i (recordSegment t i)) ≡ true)
+        × (segmentKeeps i (recordSegment t i) ≡ true) × (segmentsGood t (pred (v .enough)) (nextOf t i) end ≡ true)
     told-all = good-segment t (pred (v .enough)) i end b (rw more at (v .good))
 
     top : Topped t i end
@@ -90,24 +90,24 @@ module _ {t : List ℤ} {n end room i left k : ℕ} {o₀ o : List ℕ} (v : Lis
     list-last = top .nests
 
     abbrev S : List Step
-    S = segmentSteps i (segmentOf t i)
+    S = segmentSteps i (recordSegment t i)
 
     counted : natural (field t i 6) ≡ count S
     unfolding told natural
     counted = ap natural (same-number (field t i 6) (pos (count S)) (both-left (sameNumber (field t i 6) (pos (count S))) _ (told-all .2)))
 
-    numbered : afterSegment i (segmentOf t i) ≡ nextOf t i
-    unfolding afterSegment segmentOf itemsIn
+    numbered : afterSegment i (recordSegment t i) ≡ nextOf t i
+    unfolding afterSegment recordSegment itemsIn
     numbered = records-between t (nextOf t i - (i + 1)) 3 (i + 1) (nextOf t i) (omega (arith, top .ahead)) (omega arith) (told-all .1)
 
     abbrev own : List Found
-    own = met (extraOf t i) (pos (natural (field t i 2))) (segmentSteps i (segmentOf t i))
+    own = met (extraOf t i) (pos (natural (field t i 2))) (segmentSteps i (recordSegment t i))
 
     abbrev rest : List Found
     rest = walkFrom (nextOf t i) (segmentsFrom t (pred (v .enough)) (nextOf t i) end)
 
-    walked : walkFrom i (segmentOf t i ∷ segmentsFrom t (pred (v .enough)) (nextOf t i) end) ≡ own ++ rest
-    unfolding walkFrom segmentOf met
+    walked : walkFrom i (recordSegment t i ∷ segmentsFrom t (pred (v .enough)) (nextOf t i) end) ≡ own ++ rest
+    unfolding walkFrom recordSegment met
     walked = ap (λ (j : ℕ). own ++ walkFrom j (segmentsFrom t (pred (v .enough)) (nextOf t i) end)) numbered
 
     here : fill room (filling n 0 o₀) (walk (segmentsOf t)) ≡ fill room (fill room (filling left k o) own) rest
@@ -144,7 +144,7 @@ module _ {t : List ℤ} {n end room i left k : ℕ} {o₀ o : List ℕ} (v : Lis
 
         module _ {s : ℕ} (es : s ≡ natural (field t i 3)) where
           alone : copiesMet t s (i + 1) y a 1 ≡ own
-          unfolding copiesMet copies segmentSteps segmentOf
+          unfolding copiesMet copies segmentSteps recordSegment
           alone = rw (ey, ea, es) (ap (λ (l : List Step). met (extraOf t i) (pos (natural (field t i 2))) l) (append-nil (steps (i + 1) (itemsIn t (i + 1) (nextOf t i)))))
 
           pub list-enter : {k′ : ℕ} → k′ ≡ fill room (filling left k o) (copiesMet t s (i + 1) y a 1) .filled → {o′ : List ℕ} → o′ ≡ fill room (filling left k o) (copiesMet t s (i + 1) y a 1) .out

@@ -48,7 +48,7 @@ copiesMet t space i e a r = met space (pos a) (copies r (steps i (itemsIn t i e)
 
 -- in the element of record i
 unfoldable pub elementMet : List ℤ → ℕ → ℕ → ℕ → List Found
-elementMet t space i a = met space (pos a) (steps i (itemOf t i (itemsIn t (i + 1) (nextOf t i)) Items.end))
+elementMet t space i a = met space (pos a) (steps i (itemOf t i (itemsIn t (i + 1) (nextOf t i)) Items.noItems))
 
 -- good records, of which r copies keep the limits from address a on
 pub record Copying (t : List ℤ) (i e a r : ℕ) : Type 0 where

@@ -15,7 +15,7 @@ use Rattle.cdi.specs.Faults.Answer.{accepted}
 use Rattle.cdi.specs.Rules.{natural}
 use Rattle.cdi.specs.Walk.{Segment, Variable, Found, found, Step, count, variables, segmentSteps, segmentKeeps, afterSegment, walkFrom, walk, total}
 use Rattle.cdi.specs.Table.{sameNumber}
-use Rattle.cdi.specs.Plans.{field, extraOf, nextOf, segmentFits, told, itemsIn, segmentOf, segmentsFrom, recordsIn, segmentsOf, segmentsGood, isPlan, variableOf, locating}
+use Rattle.cdi.specs.Plans.{field, extraOf, nextOf, segmentFits, told, itemsIn, recordSegment, segmentsFrom, recordsIn, segmentsOf, segmentsGood, isPlan, variableOf, locating}
 use Rattle.cdi.proofs.Tests.{parts, both-left, both-right}
 use Rattle.cdi.proofs.Signs.{same-number}
 use Rattle.locate_plan.specs.Judging.{goodIn}
@@ -30,12 +30,12 @@ use Rattle.locate_ways.proofs.Ways.{none, seen, length-seen}
 
 -- what a good segment tells
 module _ (t : List ℤ) (k i n : ℕ) (b : i < n) (h : segmentsGood t (suc k) i n ≡ true) where
-  pub good-segment : (segmentFits t i n ≡ true) × (goodIn t 3 (i + 1) (nextOf t i) ≡ true) × (told t i (segmentSteps i (segmentOf t i)) ≡ true)
-      × (segmentKeeps i (segmentOf t i) ≡ true) × (segmentsGood t k (nextOf t i) n ≡ true)
+  pub good-segment : (segmentFits t i n ≡ true) × (goodIn t 3 (i + 1) (nextOf t i) ≡ true) × (told t i (segmentSteps i (recordSegment t i)) ≡ true)
+      × (segmentKeeps i (recordSegment t i) ≡ true) × (segmentsGood t k (nextOf t i) n ≡ true)
   good-segment =
       let G = goodIn t 3 (i + 1) (nextOf t i) in
-      let T = told t i (segmentSteps i (segmentOf t i)) in
-      let K = segmentKeeps i (segmentOf t i) in
+      let T = told t i (segmentSteps i (recordSegment t i)) in
+      let K = segmentKeeps i (recordSegment t i) in
       let F = segmentsGood t k (nextOf t i) n in
       let p = parts (segmentFits t i n) (G && ((T && K) && F)) (sym (good-segments-more t k i n b) ∙ h) in
       let q = parts G ((T && K) && F) (p .1) in
@@ -98,8 +98,8 @@ module _ {t : List ℤ} {m n i left : ℕ} (v : Passing t m n i left) where
     more : v .enough ≡ suc (pred (v .enough))
     more = omega (arith, v .spare)
 
-    told-all : (segmentFits t i n ≡ true) × (goodIn t 3 (i + 1) (nextOf t i) ≡ true) × (told t i (segmentSteps i (segmentOf t i)) ≡ true)
-        × (segmentKeeps i (segmentOf t i) ≡ true) × (segmentsGood t (pred (v .enough)) (nextOf t i) n ≡ true)
+    told-all : (segmentFits t i n ≡ true) × (goodIn t 3 (i + 1) (nextOf t i) ≡ true) × (told t i (segmentSteps i (recordSegment t i)) ≡ true)
+        × (segmentKeeps i (recordSegment t i) ≡ true) × (segmentsGood t (pred (v .enough)) (nextOf t i) n ≡ true)
     told-all = good-segment t (pred (v .enough)) i n b (rw more at (v .good))
 
     top : Topped t i n
@@ -112,26 +112,26 @@ module _ {t : List ℤ} {m n i left : ℕ} (v : Passing t m n i left) where
     top-last = top .nests
 
     abbrev S : List Step
-    S = segmentSteps i (segmentOf t i)
+    S = segmentSteps i (recordSegment t i)
 
     counted : natural (field t i 6) ≡ count S
     unfolding told natural
     counted = ap natural (same-number (field t i 6) (pos (count S)) (both-left (sameNumber (field t i 6) (pos (count S))) _ (told-all .2)))
 
-    numbered : afterSegment i (segmentOf t i) ≡ nextOf t i
-    unfolding afterSegment segmentOf itemsIn
+    numbered : afterSegment i (recordSegment t i) ≡ nextOf t i
+    unfolding afterSegment recordSegment itemsIn
     numbered = records-between t (nextOf t i - (i + 1)) 3 (i + 1) (nextOf t i) (omega (arith, top .ahead)) (omega arith) (told-all .1)
 
     abbrev own : List (Answer Found)
-    own = seen (extraOf t i) (pos (natural (field t i 2))) (segmentSteps i (segmentOf t i))
+    own = seen (extraOf t i) (pos (natural (field t i 2))) (segmentSteps i (recordSegment t i))
 
     abbrev rest : List (Answer Found)
     rest = listed (nextOf t i) (segmentsFrom t (pred (v .enough)) (nextOf t i) n)
 
-    here-listed : listed i (segmentOf t i ∷ segmentsFrom t (pred (v .enough)) (nextOf t i) n) ≡ own ++ rest
-    unfolding segmentOf
+    here-listed : listed i (recordSegment t i ∷ segmentsFrom t (pred (v .enough)) (nextOf t i) n) ≡ own ++ rest
+    unfolding recordSegment
     here-listed =
-        listed-more i (segmentOf t i) (segmentsFrom t (pred (v .enough)) (nextOf t i) n)
+        listed-more i (recordSegment t i) (segmentsFrom t (pred (v .enough)) (nextOf t i) n)
         ∙ ap (λ (j : ℕ). own ++ listed j (segmentsFrom t (pred (v .enough)) (nextOf t i) n)) numbered
 
     here : variableOf (segmentsOf t) m ≡ getD (own ++ rest) left none
@@ -166,7 +166,7 @@ module _ {t : List ℤ} {m n i left : ℕ} (v : Passing t m n i left) where
         segment-site = rw (ey, eo) (record { depth = 3; good = told-all .1; keeps = sym (segment-keeps t i (top .origin)) ∙ told-all .3 })
 
         pub enters : {s : ℕ} → s ≡ natural (field t i 3) → {w : ℕ} → Finds t (i + 1) y o left w → (z : Located) → toldOf z ≡ standing t s w → toldOf z ≡ variableOf (segmentsOf t) m
-        unfolding insideOf segmentSteps segmentOf
+        unfolding insideOf segmentSteps recordSegment
         enters {s} es f z q = q ∙ f .same s ∙ rw (es, ey, eo) (sym (here ∙ List·getD-append own rest none left (omega (arith, own-long))))
 
 -- ── what was found ──

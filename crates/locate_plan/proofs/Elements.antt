@@ -9,7 +9,7 @@ use lib.Dec.{eqb}
 use lib.IntN.{ℤ, pos, negℤ}
 use Rattle.cdi.specs.Rules.{natural}
 use Rattle.cdi.specs.Walk.{Items, Step, records, steps, copies, change}
-use Rattle.cdi.specs.Walk.Items.{end, variable, group}
+use Rattle.cdi.specs.Walk.Items.{noItems, variable, group}
 use Rattle.cdi.specs.Table.{sameNumber}
 use Rattle.cdi.specs.Plans.{field, kindOf, placeOf, extraOf, replicationOf, itemOf, itemsIn, told}
 use Rattle.cdi.proofs.Signs.{same-number, number-same}
@@ -55,10 +55,10 @@ element-sound t i m s = by (eqb (kindOf t i) 2)
 
 -- alone
 pub element-extent : (t : List ℤ) (i : ℕ) (m : Items) → 1 ≤ replicationOf t i
-    → extentOf (steps i (itemOf t i m end)) ≡ elementExtent t i (extentOf (steps (i + 1) m))
+    → extentOf (steps i (itemOf t i m noItems)) ≡ elementExtent t i (extentOf (steps (i + 1) m))
 unfolding extentOf steps
 element-extent t i m one =
-    element-join t i m one end 0
+    element-join t i m one noItems 0
     ∙ join-nowhere (elementExtent t i (extentOf (steps (i + 1) m))) (element-sound t i (extentOf (steps (i + 1) m)) (extent-sound (steps (i + 1) m)))
 
 pub items-sound : (t : List ℤ) (i e : ℕ) → Sound (itemsExtent t i e)

@@ -10,7 +10,7 @@ use lib.Dec.{eqb, leb}
 use lib.IntN.{ℤ}
 use Rattle.cdi.specs.Rules.{natural}
 use Rattle.cdi.specs.Walk.{Items, records, steps}
-use Rattle.cdi.specs.Walk.Items.{end, variable, group}
+use Rattle.cdi.specs.Walk.Items.{noItems, variable, group}
 use Rattle.cdi.specs.Plans.{field, kindOf, replicationOf, nextOf, sizeFits, offsetFits, replicationFits, placeFits, nextFits, itemFits, told, itemOf, itemsFrom, itemsGood}
 use Rattle.cdi.proofs.Tests.{parts}
 use Rattle.locate_rows.proofs.Numbers.{in-of, only-of}
@@ -60,7 +60,7 @@ ranged t i e b h =
 
 -- ── no record left, or one more ──
 
-pub items-out : (t : List ℤ) (k i e : ℕ) → e ≤ i → itemsFrom t k i e ≡ end
+pub items-out : (t : List ℤ) (k i e : ℕ) → e ≤ i → itemsFrom t k i e ≡ noItems
 unfolding itemsFrom
 items-out t zero i e h = refl
 items-out t (suc k) i e h = rw (le-ltb i e h, itemsFrom)
@@ -77,17 +77,17 @@ module _ (t : List ℤ) (k i e : ℕ) (b : i < e) where
 
   pub good-more : (d : ℕ) → itemsGood t (suc k) d i e
       ≡ leb d 24 && (itemFits t i e && (itemsGood t k (d + 1) (i + 1) (nextOf t i)
-      && (told t i (steps i (itemOf t i (itemsFrom t k (i + 1) (nextOf t i)) end)) && itemsGood t k d (nextOf t i) e)))
+      && (told t i (steps i (itemOf t i (itemsFrom t k (i + 1) (nextOf t i)) noItems)) && itemsGood t k d (nextOf t i) e)))
   unfolding itemsGood
   good-more d = rw (lt-ltb i e b, itemsGood)
 
 -- what a good record tells
 module _ (t : List ℤ) (k d i e : ℕ) (b : i < e) (h : itemsGood t (suc k) d i e ≡ true) where
   all : (itemFits t i e ≡ true) × (itemsGood t k (d + 1) (i + 1) (nextOf t i) ≡ true)
-      × (told t i (steps i (itemOf t i (itemsFrom t k (i + 1) (nextOf t i)) end)) ≡ true) × (itemsGood t k d (nextOf t i) e ≡ true)
+      × (told t i (steps i (itemOf t i (itemsFrom t k (i + 1) (nextOf t i)) noItems)) ≡ true) × (itemsGood t k d (nextOf t i) e ≡ true)
   all =
       let M = itemsGood t k (d + 1) (i + 1) (nextOf t i) in
-      let T = told t i (steps i (itemOf t i (itemsFrom t k (i + 1) (nextOf t i)) end)) in
+      let T = told t i (steps i (itemOf t i (itemsFrom t k (i + 1) (nextOf t i)) noItems)) in
       let F = itemsGood t k d (nextOf t i) e in
       let p = parts (leb d 24) (itemFits t i e && (M && (T && F))) (sym (good-more t k i e b d) ∙ h) in
       let q = parts (itemFits t i e) (M && (T && F)) (p .1) in
@@ -101,7 +101,7 @@ module _ (t : List ℤ) (k d i e : ℕ) (b : i < e) (h : itemsGood t (suc k) d i
   pub good-members : itemsGood t k (d + 1) (i + 1) (nextOf t i) ≡ true
   good-members = all .1
 
-  pub good-told : told t i (steps i (itemOf t i (itemsFrom t k (i + 1) (nextOf t i)) end)) ≡ true
+  pub good-told : told t i (steps i (itemOf t i (itemsFrom t k (i + 1) (nextOf t i)) noItems)) ≡ true
   good-told = all .2
 
   pub good-following : itemsGood t k d (nextOf t i) e ≡ true
@@ -142,9 +142,9 @@ same-steps t (suc k) (suc k′) d i e h h′ =
       good =
           good-more t k i e b d
           ∙ agree (leb d 24) (itemFits t i e) (itemsGood t k (d + 1) (i + 1) x) (itemsGood t k′ (d + 1) (i + 1) x)
-          (told t i (steps i (itemOf t i (itemsFrom t k (i + 1) x) end))) (told t i (steps i (itemOf t i (itemsFrom t k′ (i + 1) x) end)))
+          (told t i (steps i (itemOf t i (itemsFrom t k (i + 1) x) noItems))) (told t i (steps i (itemOf t i (itemsFrom t k′ (i + 1) x) noItems)))
           (itemsGood t k d x e) (itemsGood t k′ d x e)
-          (λ f. members f .good) (λ f g. ap (λ (m : Items). told t i (steps i (itemOf t i m end))) (members f .items g)) (λ f. following f .good)
+          (λ f. members f .good) (λ f g. ap (λ (m : Items). told t i (steps i (itemOf t i m noItems))) (members f .items g)) (λ f. following f .good)
           ∙ sym (good-more t k′ i e b d);
       items = λ g.
           let f = good-fits t k d i e b g in

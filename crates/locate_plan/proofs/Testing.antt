@@ -134,7 +134,7 @@ module _ {t : List ℤ} {d from end i : ℕ} {before : Extent} (v : Tested-to t 
     here : testedOf t d from end
         ≡ judged
         (leb d 24 && (itemFits t i end && (itemsGood t (pred (v .enough)) (d + 1) (i + 1) (nextOf t i)
-        && (told t i (steps i (itemOf t i (itemsFrom t (pred (v .enough)) (i + 1) (nextOf t i)) Items.end)) && itemsGood t (pred (v .enough)) d (nextOf t i) end))))
+        && (told t i (steps i (itemOf t i (itemsFrom t (pred (v .enough)) (i + 1) (nextOf t i)) Items.noItems)) && itemsGood t (pred (v .enough)) d (nextOf t i) end))))
         (join before (extentOf (steps i (itemOf t i (itemsFrom t (pred (v .enough)) (i + 1) (nextOf t i)) (itemsFrom t (pred (v .enough)) (nextOf t i) end)))))
     here = v .left ∙ rw (more, good-more t (pred (v .enough)) i end b d, items-more t (pred (v .enough)) i end b)
 
@@ -184,11 +184,11 @@ module _ {t : List ℤ} {d from end i : ℕ} {before : Extent} (v : Tested-to t 
             inner : itemsFrom t (pred (v .enough)) (i + 1) x ≡ itemsFrom t (x - (i + 1)) (i + 1) x
             inner = same .items (same .good ∙ h)
 
-            element : extentOf (steps i (itemOf t i (itemsFrom t (x - (i + 1)) (i + 1) x) Items.end)) ≡ own
+            element : extentOf (steps i (itemOf t i (itemsFrom t (x - (i + 1)) (i + 1) x) Items.noItems)) ≡ own
             element = element-extent t i (itemsFrom t (x - (i + 1)) (i + 1) x) (ran .one)
 
             tests : leb d 24 && (itemFits t i end && (itemsGood t (pred (v .enough)) (d + 1) (i + 1) (nextOf t i)
-                && (told t i (steps i (itemOf t i (itemsFrom t (pred (v .enough)) (i + 1) (nextOf t i)) Items.end)) && itemsGood t (pred (v .enough)) d (nextOf t i) end)))
+                && (told t i (steps i (itemOf t i (itemsFrom t (pred (v .enough)) (i + 1) (nextOf t i)) Items.noItems)) && itemsGood t (pred (v .enough)) d (nextOf t i) end)))
                 ≡ tells t i own && itemsGood t (pred (v .enough)) d x end
             tests = rw (le-leb d 24 hd, ← fr, hr, ← ex, inner, same .good, h, ← element, tells-told)
 

@@ -14,7 +14,7 @@ use lib.IntN.{ℤ, pos}
 use Rattle.cdi.specs.Rules.{natural}
 use Rattle.cdi.specs.Numbers.{within}
 use Rattle.cdi.specs.Walk.{Items, Segment, steps, count, segmentSteps, segmentKeeps, afterSegment, countFrom, total}
-use Rattle.cdi.specs.Plans.{field, kindOf, nextOf, replicationFits, placeFits, nextFits, segmentFits, told, itemsIn, segmentOf, segmentsFrom, recordsIn, segmentsOf, segmentsGood, isPlan}
+use Rattle.cdi.specs.Plans.{field, kindOf, nextOf, replicationFits, placeFits, nextFits, segmentFits, told, itemsIn, recordSegment, segmentsFrom, recordsIn, segmentsOf, segmentsGood, isPlan}
 use Rattle.cdi.proofs.Tests.{parts, both-left, both-right}
 use Rattle.extent.specs.Reach.{Small, extentOf, fitsAt}
 use Rattle.extent.specs.declared.Extent.{Extent}
@@ -61,30 +61,30 @@ good-segments-out t zero i e h = refl
 good-segments-out t (suc k) i e h = rw (le-ltb i e h, segmentsGood)
 
 module _ (t : List ℤ) (k i e : ℕ) (b : i < e) where
-  pub segments-more : segmentsFrom t (suc k) i e ≡ segmentOf t i ∷ segmentsFrom t k (nextOf t i) e
+  pub segments-more : segmentsFrom t (suc k) i e ≡ recordSegment t i ∷ segmentsFrom t k (nextOf t i) e
   unfolding segmentsFrom
   segments-more = rw (lt-ltb i e b, segmentsFrom)
 
   pub good-segments-more : segmentsGood t (suc k) i e
-      ≡ segmentFits t i e && (goodIn t 3 (i + 1) (nextOf t i) && ((told t i (segmentSteps i (segmentOf t i)) && segmentKeeps i (segmentOf t i)) && segmentsGood t k (nextOf t i) e))
+      ≡ segmentFits t i e && (goodIn t 3 (i + 1) (nextOf t i) && ((told t i (segmentSteps i (recordSegment t i)) && segmentKeeps i (recordSegment t i)) && segmentsGood t k (nextOf t i) e))
   unfolding segmentsGood
   good-segments-more = rw (lt-ltb i e b, segmentsGood)
 
 -- ── a segment, by the extent of its members ──
 
 module _ (t : List ℤ) (i : ℕ) where
-  pub segment-extent : extentOf (segmentSteps i (segmentOf t i)) ≡ itemsExtent t (i + 1) (nextOf t i)
-  unfolding segmentSteps segmentOf itemsExtent
+  pub segment-extent : extentOf (segmentSteps i (recordSegment t i)) ≡ itemsExtent t (i + 1) (nextOf t i)
+  unfolding segmentSteps recordSegment itemsExtent
   segment-extent = refl
 
-  pub segment-count : count (segmentSteps i (segmentOf t i)) ≡ itemsExtent t (i + 1) (nextOf t i) .count
-  segment-count = sym (extent-count (segmentSteps i (segmentOf t i))) ∙ ap (λ (e : Extent). e .count) segment-extent
+  pub segment-count : count (segmentSteps i (recordSegment t i)) ≡ itemsExtent t (i + 1) (nextOf t i) .count
+  segment-count = sym (extent-count (segmentSteps i (recordSegment t i))) ∙ ap (λ (e : Extent). e .count) segment-extent
 
-  pub segment-tells : told t i (segmentSteps i (segmentOf t i)) ≡ tells t i (itemsExtent t (i + 1) (nextOf t i))
-  segment-tells = sym (tells-told t i (segmentSteps i (segmentOf t i))) ∙ ap (λ (e : Extent). tells t i e) segment-extent
+  pub segment-tells : told t i (segmentSteps i (recordSegment t i)) ≡ tells t i (itemsExtent t (i + 1) (nextOf t i))
+  segment-tells = sym (tells-told t i (segmentSteps i (recordSegment t i))) ∙ ap (λ (e : Extent). tells t i e) segment-extent
 
-  pub segment-keeps : natural (field t i 2) ≤ 2147483647 → segmentKeeps i (segmentOf t i) ≡ fitsAt (natural (field t i 2)) (itemsExtent t (i + 1) (nextOf t i))
-  unfolding segmentKeeps segmentSteps segmentOf itemsExtent
+  pub segment-keeps : natural (field t i 2) ≤ 2147483647 → segmentKeeps i (recordSegment t i) ≡ fitsAt (natural (field t i 2)) (itemsExtent t (i + 1) (nextOf t i))
+  unfolding segmentKeeps segmentSteps recordSegment itemsExtent
   segment-keeps h = extent-keeps (natural (field t i 2)) (omega arith) (steps (i + 1) (itemsIn t (i + 1) (nextOf t i)))
 
 -- the numbers of the records make no difference to the count
@@ -130,9 +130,9 @@ module _ {t : List ℤ} {end i counted : ℕ} (v : Counted-to t end i counted) w
     more = omega (arith, v .spare)
 
     here : plannedOf t end
-        ≡ (segmentFits t i end && (goodIn t 3 (i + 1) (nextOf t i) && ((told t i (segmentSteps i (segmentOf t i)) && segmentKeeps i (segmentOf t i)) && segmentsGood t (pred (v .enough)) (nextOf t i) end)))
-        && leb (counted + (count (segmentSteps i (segmentOf t i)) + total (segmentsFrom t (pred (v .enough)) (nextOf t i) end))) 1000000
-    here = v .left ∙ rw (more, good-segments-more t (pred (v .enough)) i end b, segments-more t (pred (v .enough)) i end b, total-more (segmentOf t i) (segmentsFrom t (pred (v .enough)) (nextOf t i) end) i)
+        ≡ (segmentFits t i end && (goodIn t 3 (i + 1) (nextOf t i) && ((told t i (segmentSteps i (recordSegment t i)) && segmentKeeps i (recordSegment t i)) && segmentsGood t (pred (v .enough)) (nextOf t i) end)))
+        && leb (counted + (count (segmentSteps i (recordSegment t i)) + total (segmentsFrom t (pred (v .enough)) (nextOf t i) end))) 1000000
+    here = v .left ∙ rw (more, good-segments-more t (pred (v .enough)) i end b, segments-more t (pred (v .enough)) i end b, total-more (recordSegment t i) (segmentsFrom t (pred (v .enough)) (nextOf t i) end) i)
 
     module _ {R : Bool} (fr : R ≡ segmentFits t i end) where
       pub no-segment : R ≡ false → false ≡ plannedOf t end

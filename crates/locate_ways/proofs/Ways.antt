@@ -106,11 +106,11 @@ record-held s i e l b few long = let z : (s * 4096 + i) % 4096 ≡ i = omega ari
 -- ── an element's steps ──
 
 module _ (t : List ℤ) (i : ℕ) (m : Items) where
-  pub group-steps : kindOf t i ≡ 2 → steps i (itemOf t i m Items.end) ≡ add (field t i 2) ∷ copies (replicationOf t i) (steps (i + 1) m)
+  pub group-steps : kindOf t i ≡ 2 → steps i (itemOf t i m Items.noItems) ≡ add (field t i 2) ∷ copies (replicationOf t i) (steps (i + 1) m)
   unfolding itemOf steps
   group-steps h = rw (eq-eqb (kindOf t i) 2 h) (ap (λ (l : List Step). add (field t i 2) ∷ l) (append-nil (copies (replicationOf t i) (steps (i + 1) m))))
 
-  pub variable-steps : (kindOf t i ≡ 2 → ⊥) → steps i (itemOf t i m Items.end) ≡ add (field t i 2) ∷ stand (kindOf t i) i (extraOf t i) ∷ []
+  pub variable-steps : (kindOf t i ≡ 2 → ⊥) → steps i (itemOf t i m Items.noItems) ≡ add (field t i 2) ∷ stand (kindOf t i) i (extraOf t i) ∷ []
   unfolding itemOf steps
   variable-steps h = rw (ne-eqb (kindOf t i) 2 h)
 
@@ -124,10 +124,10 @@ module _ (t : List ℤ) (i : ℕ) (m : Items) where
   variable-before f h = rw (ne-eqb (kindOf t i) 2 h)
 
   element-steps : (f : Items) (x : ℕ) → i + 1 + records m ≡ x → ((kindOf t i ≡ 2 → ⊥) → x ≡ i + 1)
-      → steps i (itemOf t i m f) ≡ steps i (itemOf t i m Items.end) ++ steps x f
+      → steps i (itemOf t i m f) ≡ steps i (itemOf t i m Items.noItems) ++ steps x f
   element-steps f x g v = by (ℕ-discrete (kindOf t i) 2)
     where
-      by : Dec (kindOf t i ≡ 2) → steps i (itemOf t i m f) ≡ steps i (itemOf t i m Items.end) ++ steps x f
+      by : Dec (kindOf t i ≡ 2) → steps i (itemOf t i m f) ≡ steps i (itemOf t i m Items.noItems) ++ steps x f
       by (yes z) = group-before f z ∙ rw g (ap (λ (l : List Step). l ++ steps x f) (sym (group-steps z)))
       by (no z) = variable-before f z ∙ rw (v z) (ap (λ (l : List Step). l ++ steps (i + 1) f) (sym (variable-steps z)))
 
@@ -145,14 +145,14 @@ counted-plain z n e = omega (arith, fall-down z, ap down e)
 pub record Entry (t : List ℤ) (d i e a : ℕ) (f : Items) : Type 0 where
   pub range : Ranged t i e
   pub inner : goodIn t (d + 1) (i + 1) (nextOf t i) ≡ true
-  pub counts : natural (field t i 6) ≡ count (steps i (itemOf t i (itemsIn t (i + 1) (nextOf t i)) Items.end))
+  pub counts : natural (field t i 6) ≡ count (steps i (itemOf t i (itemsIn t (i + 1) (nextOf t i)) Items.noItems))
   pub plain : natural (negℤ (field t i 6)) ≤ 0
   pub moves : Moves (field t i 7) (elementExtent t i (itemsExtent t (i + 1) (nextOf t i)))
   pub fits : Fits a (elementExtent t i (itemsExtent t (i + 1) (nextOf t i)))
   pub after : Fits (past a (elementExtent t i (itemsExtent t (i + 1) (nextOf t i)))) (extentOf (steps (nextOf t i) f))
 
 pub entry : (t : List ℤ) (k d i e a : ℕ) → i < e → e ≤ i + suc k → itemsGood t (suc k) d i e ≡ true → Fits a (extentOf (steps i (itemsFrom t (suc k) i e)))
-    → (steps i (itemsFrom t (suc k) i e) ≡ steps i (itemOf t i (itemsIn t (i + 1) (nextOf t i)) Items.end) ++ steps (nextOf t i) (itemsFrom t k (nextOf t i) e))
+    → (steps i (itemsFrom t (suc k) i e) ≡ steps i (itemOf t i (itemsIn t (i + 1) (nextOf t i)) Items.noItems) ++ steps (nextOf t i) (itemsFrom t k (nextOf t i) e))
     × Entry t d i e a (itemsFrom t k (nextOf t i) e)
 unfolding itemsExtent itemsIn told natural
 entry t k d i e a b n g f = (
@@ -190,7 +190,7 @@ entry t k d i e a b n g f = (
     numbered = records-between t (x - (i + 1)) (d + 1) (i + 1) x (omega (arith, ran .ahead)) (omega arith) good-inside
 
     S : List Step
-    S = steps i (itemOf t i M Items.end)
+    S = steps i (itemOf t i M Items.noItems)
 
     own : Extent
     own = elementExtent t i (extentOf (steps (i + 1) M))
@@ -261,7 +261,7 @@ module _ {t : List ℤ} {from end origin n i a left : ℕ} (v : Seeking t from e
     E = itemsExtent t (i + 1) (nextOf t i)
 
     abbrev S : List Step
-    S = steps i (itemOf t i (itemsIn t (i + 1) (nextOf t i)) Items.end)
+    S = steps i (itemOf t i (itemsIn t (i + 1) (nextOf t i)) Items.noItems)
 
     abbrev own : Extent
     own = elementExtent t i (itemsExtent t (i + 1) (nextOf t i))

@@ -16,7 +16,7 @@ use Rattle.cdi.specs.Pieces.{Attribute}
 use Rattle.cdi.specs.Tree.{Nodes, end, element, other}
 use Rattle.cdi.specs.Rules.{ownText, ownNumber}
 use Rattle.cdi.specs.Table.{sameNumber}
-use Rattle.cdi.specs.Values.{signed}
+use Rattle.cdi.specs.Values.{withSign}
 use Rattle.cdi.specs.Access.{childOf, decoded, properties, equals}
 use Rattle.cdi.proofs.Quiet.{impossible, same-comm}
 use Rattle.scan.proofs.Tests.{lt-or-le, eq-or-ne}
@@ -85,8 +85,8 @@ held-same c k b m h = ⊎-elim
     (λ l. rw (le-ltb k (2 ^ 64) l, ne-eqb k m (omega arith)))
     (lt-or-le k (2 ^ 64))
 
-number-same : (y : ℤ) (b : Bool) (m : ℕ) → m < 2 ^ 64 → isEqual (signedOf y) b m ≡ sameNumber (signed b m) y
-unfolding signedOf signed sameNumber
+number-same : (y : ℤ) (b : Bool) (m : ℕ) → m < 2 ^ 64 → isEqual (signedOf y) b m ≡ sameNumber (withSign b m) y
+unfolding signedOf withSign sameNumber
 number-same (pos k) true zero h = held-same false k true 0 h ∙ and-true (eqb k 0) ∙ turned k 0
 number-same (pos k) true (suc m) h = held-same false k true (suc m) h ∙ rw (ne-eqb (suc m) 0 (omega arith)) (and-false (eqb k (suc m)))
 number-same (pos k) false m h = held-same false k false m h ∙ ap (λ x. eqb k m && x) (or-true (eqb m 0)) ∙ and-true (eqb k m) ∙ turned k m
@@ -109,7 +109,7 @@ module _ {w : Wanted} (t : List ℕ) (u : Nodes) where
   no-event e = sym (rw e)
 
   module _ {b : Bool} {m : ℕ} (e : w ≡ wanted.Number b m) {n : Number} (q : n ≡ numberOf (ownNumber u)) where
-    asked : equals (wantedOf w t) u ≡ given (ownNumber u) false (sameNumber (signed b m))
+    asked : equals (wantedOf w t) u ≡ given (ownNumber u) false (sameNumber (withSign b m))
     unfolding wantedOf equals
     asked = rw e
 

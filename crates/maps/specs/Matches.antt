@@ -5,7 +5,7 @@ use Prim.Native.Nat.{ℕ}
 use lib.Dec.{eqb}
 use Rattle.cdi.specs.Words.{ascii, given, same}
 use Rattle.cdi.specs.Tree.{Nodes, end}
-use Rattle.cdi.specs.Values.{signed}
+use Rattle.cdi.specs.Values.{withSign}
 use Rattle.cdi.specs.Access.{Value, integer, event, string, childOf}
 use Rattle.numbers.specs.declared.Signed.{Signed}
 use Rattle.maps.specs.declared.Wanted.{Wanted}
@@ -15,7 +15,7 @@ unfoldable pub isEqual : Signed → Bool → ℕ → Bool
 isEqual n b m = cond (n .large) false (eqb (n .magnitude) m && (eqb m 0 || Bool·beq (n .negative) b))
 
 unfoldable pub wantedOf : Wanted → List ℕ → Value
-wantedOf (Number b m) t = integer (signed b m)
+wantedOf (Number b m) t = integer (withSign b m)
 wantedOf (Event v) t = event v
 wantedOf Text t = string t
 

@@ -12,7 +12,8 @@ use lib.Signed.{leZ}
 use mir.Syntax.{w64}
 use mir.Val.{Fits}
 use Rattle.scan.proofs.Tests.{lt-or-le}
-use Rattle.numbers.specs.Held.{sizeOf, withSign, nearest}
+use Rattle.cdi.specs.Values.{withSign}
+use Rattle.numbers.specs.Held.{sizeOf, nearest}
 use Rattle.numbers.specs.declared.Signed.{Signed}
 
 -- ── magnitudes ──

@@ -16,9 +16,10 @@ use lib.ListN.{length, take, drop, getD, drop-of-length-le}
 use Rattle.cdi.specs.Words.{_>>=_, _orElse_, isEmpty, all, strip, begins, between}
 use Rattle.cdi.specs.Pieces.{digit, decimal}
 use Rattle.cdi.specs.Numbers.{digits, number}
+use Rattle.cdi.specs.Values.{withSign}
 use Rattle.scan.proofs.Along.{drop-next, rest}
 use Rattle.scan.proofs.Tests.{lt-or-le}
-use Rattle.numbers.specs.Held.{held, sizeOf, withSign, nearest, signedOf, numberOf, digitsOf, oneMore, minusOf}
+use Rattle.numbers.specs.Held.{held, sizeOf, nearest, signedOf, numberOf, digitsOf, oneMore, minusOf}
 use Rattle.numbers.specs.declared.Signed.{Signed}
 use Rattle.numbers.specs.declared.Number.{Number}
 use Rattle.numbers.specs.declared.Number.the-variants.{Is, Not}

@@ -4,7 +4,8 @@ use mathlib.Core.Bool.{Bool, true, false, cond, not, _||_}
 use mathlib.Core.Option.{Option, none, some}
 use Prim.Native.Nat.{ℕ, suc, _+_, _*_, _-_, _^_}
 use lib.Dec.{eqb, ltb}
-use lib.IntN.{ℤ, pos, negsuc, negℤ}
+use lib.IntN.{ℤ, pos, negsuc}
+use Rattle.cdi.specs.Values.{withSign}
 use Rattle.numbers.specs.declared.Signed.{Signed}
 use Rattle.numbers.specs.declared.Number.{Number}
 use Rattle.numbers.specs.declared.Number.the-variants as number
@@ -41,9 +42,6 @@ minusOf n = record { negative = n .large || not (eqb (n .magnitude) 0); magnitud
 
 unfoldable pub sizeOf : Signed → ℕ
 sizeOf n = cond (n .large) (2 ^ 64) (n .magnitude)
-
-unfoldable pub withSign : Bool → ℕ → ℤ
-withSign negative n = cond negative (negℤ (pos n)) (pos n)
 
 -- the number that is held; of the large ones, the first
 unfoldable pub nearest : Signed → ℤ

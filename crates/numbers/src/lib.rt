@@ -9,7 +9,8 @@ ghost use Rattle.cdi.specs.Words.{ascii, same as sameBytes, after};
 ghost use Rattle.cdi.specs.Pieces.{digit};
 ghost use Rattle.cdi.specs.Numbers.{number, digits as digitsIn};
 ghost use Rattle.cdi.specs.Rules.{isFormatting};
-ghost use Rattle.numbers.specs.Held.{held, withSign, oneMore, digitsOf, numberOf, minusOf, sizeOf, nearest};
+ghost use Rattle.cdi.specs.Values.{withSign};
+ghost use Rattle.numbers.specs.Held.{held, oneMore, digitsOf, numberOf, minusOf, sizeOf, nearest};
 ghost use Rattle.numbers.specs.Formatting.{isFraction};
 
 // A number: its sign and its magnitude. A magnitude that needs more than 64 bits is large, and 0 stands in its place.

@@ -11,7 +11,7 @@ use lib.ListN.{length, drop, length-drop}
 use Rattle.cdi.specs.Words.{while, all}
 use Rattle.cdi.specs.Faults.{Fault, fault, unless, before, lesser, least}
 use Rattle.cdi.specs.Pieces.{Piece, start, finish, remark, refer, text, malformed, unsupported, blank, pieceAt, pieces}
-use Rattle.cdi.specs.Markup.{Reading, outside, refers, innermost, pieceFaults, next, markupFaults}
+use Rattle.cdi.specs.Markup.{Progress, outside, refers, innermost, pieceFaults, next, markupFaults}
 use Rattle.cdi.proofs.Least.{least-append}
 use Rattle.levels.specs.Ahead.{from}
 
@@ -52,7 +52,7 @@ least-from q (f ∷ fs) h = by (least fs) (least-from q fs (h .1))
     by none k = h .0
     by (some g) k = one (before f g) g k
 
-piece-from : (r : Reading) (p : ℕ) (c : Piece) → From p (pieceFaults r p c)
+piece-from : (r : Progress) (p : ℕ) (c : Piece) → From p (pieceFaults r p c)
 unfolding pieceFaults From
 piece-from r p (start n s e) =
     from-append p (unless (not (refers s)) (fault 5 p)) _ (from-unless p 5 p (not (refers s)) (omega arith))
@@ -65,7 +65,7 @@ piece-from r p (text s) = from-unless p 6 (p + length (while blank s)) (not (out
 piece-from r p malformed = (omega arith, tt)
 piece-from r p unsupported = (omega arith, tt)
 
-all-from : (stop : ℕ) (r : Reading) (at k : ℕ) (s : List ℕ) → k ≤ length s → at + length s ≡ stop → From (at + k) (markupFaults stop r (pieces at k s))
+all-from : (stop : ℕ) (r : Progress) (at k : ℕ) (s : List ℕ) → k ≤ length s → at + length s ≡ stop → From (at + k) (markupFaults stop r (pieces at k s))
 unfolding pieces markupFaults
 all-from stop r at k [] h e = from-unless (at + k) 6 stop (outside r && ltb 0 (r .begun)) (omega arith)
 all-from stop r at (suc k) (x ∷ s) h e = from-before (at + suc k) (at + 1 + k) _ (omega arith) (all-from stop r (at + 1) k s (omega arith) (omega arith))
@@ -81,7 +81,7 @@ sooner q f none l h = refl
 sooner q f (some g) l h = rw (lt-ltb (f .place) (g .place) (omega arith))
 
 -- The piece at the front has a fault, which stands before the piece's end: it is the least of all.
-pub first-fault : (s : List ℕ) (r : Reading) (i e : ℕ) (c : Piece) (f : Fault) → e ≤ length s → f .place < e → least (pieceFaults r i c) ≡ some f → least (markupFaults (length s) r ((i, c) ∷ from s e)) ≡ some f
+pub first-fault : (s : List ℕ) (r : Progress) (i e : ℕ) (c : Piece) (f : Fault) → e ≤ length s → f .place < e → least (pieceFaults r i c) ≡ some f → least (markupFaults (length s) r ((i, c) ∷ from s e)) ≡ some f
 unfolding markupFaults
 first-fault s r i e c f h l q =
     least-append (pieceFaults r i c) (markupFaults (length s) (next r c) (from s e))
@@ -89,6 +89,6 @@ first-fault s r i e c f h l q =
     (least-from (e + 0) _ (all-from (length s) (next r c) e 0 (drop e s) (omega arith) (omega (arith, length-drop e s)))))
 
 -- The piece at the front has no fault: the faults are those of the others.
-pub no-fault : (stop : ℕ) (r : Reading) (i : ℕ) (c : Piece) (cs : List (ℕ × Piece)) → pieceFaults r i c ≡ [] → markupFaults stop r ((i, c) ∷ cs) ≡ markupFaults stop (next r c) cs
+pub no-fault : (stop : ℕ) (r : Progress) (i : ℕ) (c : Piece) (cs : List (ℕ × Piece)) → pieceFaults r i c ≡ [] → markupFaults stop r ((i, c) ∷ cs) ≡ markupFaults stop (next r c) cs
 unfolding markupFaults
 no-fault stop r i c cs e = rw e

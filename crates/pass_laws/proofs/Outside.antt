@@ -13,7 +13,7 @@ use lib.Seq.{length-take-le}
 use Rattle.cdi.specs.Words.{all, while, isEmpty}
 use Rattle.cdi.specs.Faults.{fault, unless, lesser, least}
 use Rattle.cdi.specs.Pieces.{Piece, text, blank, pieces}
-use Rattle.cdi.specs.Markup.{reading, outside, innermost, pieceFaults, markupFaults}
+use Rattle.cdi.specs.Markup.{progress, outside, innermost, pieceFaults, markupFaults}
 use Rattle.cdi.specs.Tree.{levels, top, tree}
 use Rattle.cdi.proofs.Quiet.{impossible}
 use Rattle.pieces_cuts.specs.Places.{part}
@@ -88,11 +88,11 @@ module _ (s : List ℕ) (i b : ℕ) {c : Cut} (u : Stands s i c) where
   text-solid e = solid-place (text (part s i (c .end))) (is-text e)
 
   -- a fault of the piece, before its end
-  fault-here : {n p : ℕ} (m q : ℕ) → least (pieceFaults (reading [] b) i (pieceOf (c .kind) s i c)) ≡ some (fault m q) → q < c .end → Stray m q ≡ Stray n p → Fails s 24 i b n p
+  fault-here : {n p : ℕ} (m q : ℕ) → least (pieceFaults (progress [] b) i (pieceOf (c .kind) s i c)) ≡ some (fault m q) → q < c .end → Stray m q ≡ Stray n p → Fails s 24 i b n p
   fault-here {n} {p} m q e l z =
       let m≡ : m ≡ n = cc in
       let q≡ : q ≡ p = cc in
-      rw (← m≡, ← q≡) (record { first = λ ms h. halts s i u refl (reading ms b) {f = fault m q} (rw (open-none ms h) e) l })
+      rw (← m≡, ← q≡) (record { first = λ ms h. halts s i u refl (progress ms b) {f = fault m q} (rw (open-none ms h) e) l })
 
   -- a piece that is refused has that fault
   stray-fails : {n p : ℕ} (k : Kind) → c .kind ≡ k → aroundOf k i (c .solid) (c .end) ≡ Stray n p → Fails s 24 i b n p
@@ -110,7 +110,7 @@ module _ (s : List ℕ) (i b : ℕ) {c : Cut} (u : Stands s i c) where
   stray-fails Unsupported e z = fault-here 5 i (rw e) (u .cut .low) z
 
   -- a piece that is passed has none
-  skip-clean : (k : Kind) → c .kind ≡ k → aroundOf k i (c .solid) (c .end) ≡ Skip → pieceFaults (reading [] b) i (pieceOf (c .kind) s i c) ≡ []
+  skip-clean : (k : Kind) → c .kind ≡ k → aroundOf k i (c .solid) (c .end) ≡ Skip → pieceFaults (progress [] b) i (pieceOf (c .kind) s i c) ≡ []
   unfolding aroundOf pieceOf pieceFaults outside isEmpty unless
   skip-clean Start e z = impossible (cc)
   skip-clean Finish e z = impossible (cc)
@@ -118,7 +118,7 @@ module _ (s : List ℕ) (i b : ℕ) {c : Cut} (u : Stands s i c) where
   skip-clean Refer e z = impossible (cc)
   skip-clean Text e z = by (ltb (c .solid) (c .end)) refl z
     where
-      by : (t : Bool) → ltb (c .solid) (c .end) ≡ t → cond t (Stray 6 (c .solid)) Skip ≡ Skip → pieceFaults (reading [] b) i (pieceOf (c .kind) s i c) ≡ []
+      by : (t : Bool) → ltb (c .solid) (c .end) ≡ t → cond t (Stray 6 (c .solid)) Skip ≡ Skip → pieceFaults (progress [] b) i (pieceOf (c .kind) s i c) ≡ []
       by true g y = impossible (cc)
       by false g y = rw (e, all-blank (part s i (c .end)) (omega (arith, ltb-false (c .solid) (c .end) g, text-solid e, run-length, u .cut .low)))
   skip-clean Malformed e z = impossible (cc)
@@ -136,11 +136,11 @@ module _ {s : List ℕ} {at b₀ : ℕ} {st₀ : State} {t₀ : List ℤ} {i b :
 
 -- behind the root all is read; without one the text's end is the fault
 module _ {s : List ℕ} {at : ℕ} {st₀ : State} {t₀ : List ℤ} {i b : ℕ} {st : State} {t : List ℤ} (v : Passed s 24 at 0 st₀ t₀ i b st t) (h : length s ≤ i) where
-  over : markupFaults (length s) (reading [] 0) (from s at) ≡ unless (ltb 0 b) (fault 6 (length s))
+  over : markupFaults (length s) (progress [] 0) (from s at) ≡ unless (ltb 0 b) (fault 6 (length s))
   unfolding pieces markupFaults outside isEmpty
   over = v .faults [] refl ∙ rw (drop-of-length-le s h)
 
-  pub clean : (b ≡ 0 → ⊥) → markupFaults (length s) (reading [] 0) (from s at) ≡ []
+  pub clean : (b ≡ 0 → ⊥) → markupFaults (length s) (progress [] 0) (from s at) ≡ []
   unfolding unless
   clean e = rw (over, lt-ltb 0 b (omega arith))
 

@@ -10,7 +10,7 @@ use lib.ListN.{length, drop-of-length-le}
 use Rattle.cdi.specs.Words.{same}
 use Rattle.cdi.specs.Faults.{Fault, fault, unless, lesser, least}
 use Rattle.cdi.specs.Pieces.{Attribute, Piece, start, finish, pieces}
-use Rattle.cdi.specs.Markup.{Reading, reading, outside, refers, innermost, pieceFaults, next, markupFaults}
+use Rattle.cdi.specs.Markup.{Progress, progress, outside, refers, innermost, pieceFaults, next, markupFaults}
 use Rattle.cdi.specs.Tree.{Nodes, end, element, other, top, levels, tree}
 use Rattle.cdi.proofs.Quiet.{impossible}
 use Rattle.pieces_cuts.specs.Places.{part}
@@ -44,7 +44,7 @@ module _ (s : List ℕ) (i : ℕ) (c : Cut) where
   pass-levels Unsupported cs e = impossible (cc)
 
   -- the reading behind it is the reading before it
-  pass-next : (k : Kind) (r : Reading) → stepOf k ≡ Pass → next r (pieceOf k s i c) ≡ r
+  pass-next : (k : Kind) (r : Progress) → stepOf k ≡ Pass → next r (pieceOf k s i c) ≡ r
   unfolding stepOf pieceOf next
   pass-next Start r e = impossible (cc)
   pass-next Finish r e = impossible (cc)
@@ -55,7 +55,7 @@ module _ (s : List ℕ) (i : ℕ) (c : Cut) where
   pass-next Unsupported r e = impossible (cc)
 
   -- inside the root it has no fault
-  pass-inside : (k : Kind) (r : Reading) → stepOf k ≡ Pass → outside r ≡ false → pieceFaults r i (pieceOf k s i c) ≡ []
+  pass-inside : (k : Kind) (r : Progress) → stepOf k ≡ Pass → outside r ≡ false → pieceFaults r i (pieceOf k s i c) ≡ []
   unfolding stepOf pieceOf pieceFaults unless
   pass-inside Start r e h = impossible (cc)
   pass-inside Finish r e h = impossible (cc)
@@ -66,7 +66,7 @@ module _ (s : List ℕ) (i : ℕ) (c : Cut) where
   pass-inside Unsupported r e h = impossible (cc)
 
   -- a piece that is refused has that one fault, wherever it stands
-  stop-least : (k : Kind) (n : ℕ) (r : Reading) → stepOf k ≡ Stop n → least (pieceFaults r i (pieceOf k s i c)) ≡ some (fault n i)
+  stop-least : (k : Kind) (n : ℕ) (r : Progress) → stepOf k ≡ Stop n → least (pieceFaults r i (pieceOf k s i c)) ≡ some (fault n i)
   unfolding stepOf pieceOf pieceFaults least lesser
   stop-least Start n r e = impossible (cc)
   stop-least Finish n r e = impossible (cc)
@@ -84,11 +84,11 @@ module _ (s : List ℕ) (i : ℕ) {c : Cut} (v : Stands s i c) {p : Piece} (q : 
   ahead = v .is ∙ ap (λ (x : Piece). (i, x) ∷ from s (c .end)) q
 
   -- without a fault the reading goes on behind it
-  pub goes : (r : Reading) → pieceFaults r i p ≡ [] → markupFaults (length s) r (from s i) ≡ markupFaults (length s) (next r p) (from s (c .end))
+  pub goes : (r : Progress) → pieceFaults r i p ≡ [] → markupFaults (length s) r (from s i) ≡ markupFaults (length s) (next r p) (from s (c .end))
   goes r e = ap (markupFaults (length s) r) ahead ∙ no-fault (length s) r i p (from s (c .end)) e
 
   -- with a fault it is over
-  pub halts : (r : Reading) {f : Fault} → least (pieceFaults r i p) ≡ some f → f .place < c .end → least (markupFaults (length s) r (from s i)) ≡ some f
+  pub halts : (r : Progress) {f : Fault} → least (pieceFaults r i p) ≡ some f → f .place < c .end → least (markupFaults (length s) r (from s i)) ≡ some f
   halts r {f} e l = ap (λ (cs : List (ℕ × Piece)). least (markupFaults (length s) r cs)) ahead ∙ first-fault s r i (c .end) p f (v .cut .high) l e
 
 module _ (s : List ℕ) (i : ℕ) {c : Cut} (v : Stands s i c) (e : c .kind ≡ Start) where
@@ -124,11 +124,11 @@ module _ {s : List ℕ} {left at b : ℕ} {st : State} {t : List ℤ} {i b₁ : 
   fails-later f = record { first = λ ms h. ap least (v .faults ms h) ∙ f .first ms h }
 
 -- a piece that is passed without a fault
-pub passed-by : (s : List ℕ) (left i b : ℕ) (st : State) (t : List ℤ) {c : Cut} {st₁ : State} → Stands s i c → stepOf (c .kind) ≡ Pass → ((ms : List (List ℕ)) → length ms + left ≡ 24 → pieceFaults (reading ms b) i (pieceOf (c .kind) s i c) ≡ [])
+pub passed-by : (s : List ℕ) (left i b : ℕ) (st : State) (t : List ℤ) {c : Cut} {st₁ : State} → Stands s i c → stepOf (c .kind) ≡ Pass → ((ms : List (List ℕ)) → length ms + left ≡ 24 → pieceFaults (progress ms b) i (pieceOf (c .kind) s i c) ≡ [])
     → b ≤ 4096 → recordsOf st ≤ b → st₁ ≡ otherOf st i (pieceOf (c .kind) s i c) → recordsOf st₁ ≤ recordsOf st → Passed s left i b st t (c .end) b st₁ t
 unfolding tree top foldNodes
 passed-by s left i b st t {c} {st₁} v e q l k g m = record {
-  faults = λ ms h. goes s i v refl (reading ms b) (q ms h) ∙ ap (λ (r : Reading). markupFaults (length s) r (from s (c .end))) (pass-next s i c (c .kind) (reading ms b) e);
+  faults = λ ms h. goes s i v refl (progress ms b) (q ms h) ∙ ap (λ (r : Progress). markupFaults (length s) r (from s (c .end))) (pass-next s i c (c .kind) (progress ms b) e);
   folds = ap (λ (fs : List Nodes). foldNodes st t (top fs)) now ∙ ap (λ (x : State). foldNodes x t (here s (c .end))) (sym g);
   around = ap tail now;
   low = omega (arith, v .cut .low);
@@ -156,7 +156,7 @@ no-content st t = refl
 
 -- a piece that is refused with that number
 pub stop-fails : (s : List ℕ) (left i b : ℕ) {c : Cut} {n : ℕ} → Stands s i c → stepOf (c .kind) ≡ Stop n → Fails s left i b n i
-stop-fails s left i b {c} {n} u e = record { first = λ ms h. halts s i u refl (reading ms b) (stop-least s i c (c .kind) n (reading ms b) e) (u .cut .low) }
+stop-fails s left i b {c} {n} u e = record { first = λ ms h. halts s i u refl (progress ms b) (stop-least s i c (c .kind) n (progress ms b) e) (u .cut .low) }
 
 -- ── content ──
 
@@ -171,19 +171,19 @@ module _ {s : List ℕ} {left at b₀ : ℕ} {st₀ : State} {t₀ : List ℤ} {
     stopped {n} f = fails-later v (stop-fails s left i b u f)
 
     pub passes : {st₁ : State} → stepOf (c .kind) ≡ Pass → left < 24 → st₁ ≡ otherOf st i (pieceOf (c .kind) s i c) → recordsOf st₁ ≤ recordsOf st → Passed s left at b₀ st₀ t₀ (c .end) b st₁ t
-    passes f l g m = farther v (passed-by s left i b st t u f (λ ms h. pass-inside s i c (c .kind) (reading ms b) f (inside ms b left l h)) (v .begun) (v .few) g m)
+    passes f l g m = farther v (passed-by s left i b st t u f (λ ms h. pass-inside s i c (c .kind) (progress ms b) f (inside ms b left l h)) (v .begun) (v .few) g m)
 
 -- ── an element ──
 
 module _ (s : List ℕ) (left at b : ℕ) (st : State) (t : List ℤ) {c : Cut} (u : Stands s at c) (e : c .kind ≡ Start) {n : ℕ} (f : n ≡ beginFault (c .refers) left b) where
   pub not-begun : (n ≡ 0 → ⊥) → Fails s left at b n at
-  not-begun z = record { first = λ ms h. halts s at u (start-piece s at u e) (reading ms b) (start-refused ms b left h at (nameIn s c) (attributesIn s c) (c .short) (start-refers s at u e) f z) (u .cut .low) }
+  not-begun z = record { first = λ ms h. halts s at u (start-piece s at u e) (progress ms b) (start-refused ms b left h at (nameIn s c) (attributesIn s c) (c .short) (start-refers s at u e) f z) (u .cut .low) }
 
   module _ (z : n ≡ 0) where
     -- the reading inside it
-    begun : (ms : List (List ℕ)) → length ms + left ≡ 24 → markupFaults (length s) (reading ms b) (from s at) ≡ markupFaults (length s) (reading (cond (c .short) ms (nameIn s c ∷ ms)) (b + 1)) (from s (c .end))
+    begun : (ms : List (List ℕ)) → length ms + left ≡ 24 → markupFaults (length s) (progress ms b) (from s at) ≡ markupFaults (length s) (progress (cond (c .short) ms (nameIn s c ∷ ms)) (b + 1)) (from s (c .end))
     unfolding next
-    begun ms h = goes s at u (start-piece s at u e) (reading ms b) (start-clean ms b left h at (nameIn s c) (attributesIn s c) (c .short) (start-refers s at u e) f z)
+    begun ms h = goes s at u (start-piece s at u e) (progress ms b) (start-clean ms b left h at (nameIn s c) (attributesIn s c) (c .short) (start-refers s at u e) f z)
 
     -- in the short form: no content
     pub short-element : {inner st′ : State} {t′ : List ℤ} → c .short ≡ true → b + 1 ≤ 4096 → recordsOf st ≤ b → inner ≡ enterOf st at (nameIn s c) (attributesIn s c) → recordsOf inner ≤ recordsOf st + 1
@@ -217,13 +217,13 @@ module _ (s : List ℕ) (left at b : ℕ) (st : State) (t : List ℤ) {c : Cut} 
         close-piece = rw fin
 
         -- the reading at the end tag
-        read : (ms : List (List ℕ)) → length ms + left ≡ 24 → markupFaults (length s) (reading ms b) (from s at) ≡ markupFaults (length s) (reading (nameIn s c ∷ ms) b′) (from s q)
+        read : (ms : List (List ℕ)) → length ms + left ≡ 24 → markupFaults (length s) (progress ms b) (from s at) ≡ markupFaults (length s) (progress (nameIn s c ∷ ms) b′) (from s q)
         read ms h = begun ms h ∙ rw y (way .faults (nameIn s c ∷ ms) (inward ms h))
 
         -- an end tag of another name
         pub another : same (nameIn s c) (nameIn s d) ≡ false → Fails s left at b 6 q
         unfolding pieceFaults innermost unless least lesser
-        another o = record { first = λ ms h. ap least (read ms h) ∙ halts s q tag close-piece (reading (nameIn s c ∷ ms) b′) {f = fault 6 q} (rw o) (tag .cut .low) }
+        another o = record { first = λ ms h. ap least (read ms h) ∙ halts s q tag close-piece (progress (nameIn s c ∷ ms) b′) {f = fault 6 q} (rw o) (tag .cut .low) }
 
         -- what lies around the content is what follows the element
         follows : tail (levels (from s (c .end))) ≡ levels (from s (d .end))
@@ -242,7 +242,7 @@ module _ (s : List ℕ) (left at b : ℕ) (st : State) (t : List ℤ) {c : Cut} 
             → Passed s left at b st t (d .end) b′ st′ t′
         unfolding tree top pieceFaults innermost unless next
         long-element {st′} {t′} o g g′ g″ m long = record {
-          faults = λ ms h. read ms h ∙ goes s q tag close-piece (reading (nameIn s c ∷ ms) b′) (rw o);
+          faults = λ ms h. read ms h ∙ goes s q tag close-piece (progress (nameIn s c ∷ ms) b′) (rw o);
           folds = ap (λ (fs : List Nodes). foldNodes st t (top fs)) whole ∙ fold-element st t at (nameIn s c) (attributesIn s c) (here s (c .end)) (here s (d .end)) g within g′ g″;
           around = ap tail whole;
           low = omega (arith, u .cut .low, way .low, tag .cut .low);

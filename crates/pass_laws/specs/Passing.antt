@@ -6,7 +6,7 @@ use Prim.Native.Nat.{ℕ, _+_, _≤_}
 use lib.IntN.{ℤ}
 use lib.ListN.{length}
 use Rattle.cdi.specs.Faults.{fault, least}
-use Rattle.cdi.specs.Markup.{reading, markupFaults}
+use Rattle.cdi.specs.Markup.{progress, markupFaults}
 use Rattle.pass_sums.specs.Sums.{recordsOf}
 use Rattle.pass_sums.specs.Folding.{foldNodes}
 use Rattle.levels.specs.Ahead.{from, here, outer}
@@ -16,7 +16,7 @@ use Rattle.pass_sums.specs.declared.State.{State}
 -- that are still to come; the fold of what is still to come at this level, from the state and table there, is that of the whole; and the
 -- levels around it are the same.
 pub record Passed (s : List ℕ) (left at b : ℕ) (st : State) (t : List ℤ) (at′ b′ : ℕ) (st′ : State) (t′ : List ℤ) : Type 0 where
-  pub faults : (ms : List (List ℕ)) → length ms + left ≡ 24 → markupFaults (length s) (reading ms b) (from s at) ≡ markupFaults (length s) (reading ms b′) (from s at′)
+  pub faults : (ms : List (List ℕ)) → length ms + left ≡ 24 → markupFaults (length s) (progress ms b) (from s at) ≡ markupFaults (length s) (progress ms b′) (from s at′)
   pub folds : foldNodes st t (here s at) ≡ foldNodes st′ t′ (here s at′)
   pub around : outer s at ≡ outer s at′
   pub low : at ≤ at′
@@ -27,4 +27,4 @@ pub record Passed (s : List ℕ) (left at b : ℕ) (st : State) (t : List ℤ) (
 
 -- whatever elements are open, this is the least fault of the pieces from a place on
 pub record Fails (s : List ℕ) (left at b n p : ℕ) : Type 0 where
-  pub first : (ms : List (List ℕ)) → length ms + left ≡ 24 → least (markupFaults (length s) (reading ms b) (from s at)) ≡ some (fault n p)
+  pub first : (ms : List (List ℕ)) → length ms + left ≡ 24 → least (markupFaults (length s) (progress ms b) (from s at)) ≡ some (fault n p)

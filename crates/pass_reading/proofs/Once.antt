@@ -9,7 +9,7 @@ use native.Mathlib.Omega.{arith}
 use lib.IntN.{ℤ}
 use lib.ListN.{length}
 use Rattle.cdi.specs.Faults.{Fault, fault, least}
-use Rattle.cdi.specs.Markup.{reading, markupFaults}
+use Rattle.cdi.specs.Markup.{progress, markupFaults}
 use Rattle.cdi.specs.Tree.{tree}
 use Rattle.cdi.proofs.Quiet.{impossible}
 use Rattle.scan.proofs.Tests.{eq-or-ne}
@@ -24,11 +24,11 @@ use Rattle.pass_reading.specs.declared.Reached.{Reached}
 -- ── what the contract tells of one result ──
 
 module _ {s : List ℕ} {at : ℕ} {t u : List ℤ} {r : Reached} (w : ContentReads s 24 at 0 atFirst t u r) where
-  no-fault : r .number ≡ 0 → least (markupFaults (length s) (reading [] 0) (from s at)) ≡ none
+  no-fault : r .number ≡ 0 → least (markupFaults (length s) (progress [] 0) (from s at)) ≡ none
   unfolding least
   no-fault z = ap least (clean (w .done z) (w .over z refl .0) (w .over z refl .1))
 
-  one-fault : (r .number ≡ 0 → ⊥) → least (markupFaults (length s) (reading [] 0) (from s at)) ≡ some (fault (r .number) (r .place))
+  one-fault : (r .number ≡ 0 → ⊥) → least (markupFaults (length s) (progress [] 0) (from s at)) ≡ some (fault (r .number) (r .place))
   one-fault z = w .fails z .first [] refl
 
   to-the-end : r .number ≡ 0 → r .place ≡ length s

@@ -13,7 +13,7 @@ use lib.ListN.{length}
 use Rattle.cdi.specs.Words.{isEmpty}
 use Rattle.cdi.specs.Faults.{Fault, fault, unless, before, lesser, least}
 use Rattle.cdi.specs.Pieces.{Attribute, start}
-use Rattle.cdi.specs.Markup.{reading, outside, refers, pieceFaults}
+use Rattle.cdi.specs.Markup.{progress, outside, refers, pieceFaults}
 use Rattle.cdi.proofs.Quiet.{quiet}
 use Rattle.scan.proofs.Tests.{lt-or-le, eq-or-ne}
 use Rattle.pass_steps.specs.Asks.{beginFault}
@@ -78,7 +78,7 @@ something-open [] e = absurd (e refl)
 something-open (m ∷ ms) e = refl
 
 -- inside the root
-pub inside : (ms : List (List ℕ)) (b left : ℕ) → left < 24 → length ms + left ≡ 24 → outside (reading ms b) ≡ false
+pub inside : (ms : List (List ℕ)) (b left : ℕ) → left < 24 → length ms + left ≡ 24 → outside (progress ms b) ≡ false
 unfolding outside
 inside ms b left l h = something-open ms (λ e. omega arith)
 
@@ -127,16 +127,16 @@ module _ (ms : List (List ℕ)) (b left : ℕ) (h : length ms + left ≡ 24) (p 
   by-number false = ⊎-elim deep (λ l. ⊎-elim (root l) (λ k. ⊎-elim (second l k) (λ m. ⊎-elim (child l k m) (many l k m) (lt-or-le b 4096)) (eq-or-ne left 24)) (eq-or-ne b 0)) (eq-or-ne left 0)
 
 module _ (ms : List (List ℕ)) (b left : ℕ) (h : length ms + left ≡ 24) (p : ℕ) (n : List ℕ) (xs : List Attribute) (e : Bool) {x : Bool} (q : x ≡ refers xs) {k : ℕ} (f : k ≡ beginFault x left b) where
-  start-least : least (pieceFaults (reading ms b) p (start n xs e)) ≡ told k p
+  start-least : least (pieceFaults (progress ms b) p (start n xs e)) ≡ told k p
   unfolding pieceFaults outside
   start-least = rw (← q) (three p x (isEmpty ms && ltb 0 b) (ltb (length ms) 24 && ltb b 4096)) ∙ by-number ms b left h p x ∙ ap (λ (j : ℕ). told j p) (sym f)
 
   -- A start tag whose number is 0 has no fault.
-  pub start-clean : k ≡ 0 → pieceFaults (reading ms b) p (start n xs e) ≡ []
+  pub start-clean : k ≡ 0 → pieceFaults (progress ms b) p (start n xs e) ≡ []
   unfolding told
   start-clean z = quiet _ (start-least ∙ rw z)
 
   -- Else that is the number of its least fault.
-  pub start-refused : (k ≡ 0 → ⊥) → least (pieceFaults (reading ms b) p (start n xs e)) ≡ some (fault k p)
+  pub start-refused : (k ≡ 0 → ⊥) → least (pieceFaults (progress ms b) p (start n xs e)) ≡ some (fault k p)
   unfolding told
   start-refused z = start-least ∙ rw (ne-eqb k 0 z)

@@ -14,13 +14,13 @@ use lib.Seq.{take-at}
 use Rattle.cdi.specs.Words.{begins}
 use Rattle.cdi.specs.Faults.{fault, least, Answer, accepted, refused, _andThen_}
 use Rattle.cdi.specs.Text.{content, badCharacter, firstLine}
-use Rattle.cdi.specs.Markup.{reading, markupFaults}
+use Rattle.cdi.specs.Markup.{progress, markupFaults}
 use Rattle.cdi.specs.Tree.{tree}
 use Rattle.cdi.specs.Rules.{elementFaults}
 use Rattle.cdi.specs.Walk.{Segment, Found, walk, total}
 use Rattle.cdi.specs.Table.{recordsOf, tableOf}
 use Rattle.cdi.specs.Plans.{isPlan, locating}
-use Rattle.cdi.specs.Planning.{Description, Counts, describe, ending, characters, opening, cut, markup, elements, leaving, addresses, counting, described, countsOf, room, planned, placed, tableAfter}
+use Rattle.cdi.specs.Planning.{Description, Counts, describe, ending, characters, opening, cut, markup, elements, leaving, addressing, counting, described, countsOf, room, planned, placed, tableAfter}
 use Rattle.cdi.proofs.Quiet.{impossible, through, test-passed}
 use Rattle.cdi.proofs.PlanOf.{length-table}
 use Rattle.cdi.proofs.Stages.{stages}
@@ -53,7 +53,7 @@ pub record Faultless (b : List ℕ) (t : List ℤ) (c : List ℕ) : Type 0 where
   pub ends : content b ≡ some c
   pub allowed : badCharacter c ≡ none
   pub opens : begins firstLine c ≡ true
-  pub formed : markupFaults (length c) (reading [] 0) (cut c) ≡ []
+  pub formed : markupFaults (length c) (progress [] 0) (cut c) ≡ []
   pub ruled : elementFaults (tree (cut c)) ≡ []
   pub inside : leaving 0 (told c) ≡ none
   pub counted : total (told c) ≤ 1000000
@@ -61,7 +61,7 @@ pub record Faultless (b : List ℕ) (t : List ℤ) (c : List ℕ) : Type 0 where
 
 module _ (b : List ℕ) (t : List ℤ) where
   faultless-described : (c : List ℕ) → Faultless b t c → described b ≡ accepted (describe (tree (cut c)) (tree (cut c)))
-  unfolding described ending characters opening markup elements addresses counting least
+  unfolding described ending characters opening markup elements addressing counting least
   faultless-described c f = rw (f .ends, f .allowed, f .opens, f .formed, f .ruled, f .inside, le-leb _ _ (f .counted))
 
   pub faultless-accepted : (c : List ℕ) → Faultless b t c → planned b t ≡ accepted (countsOf (told c))

@@ -10,7 +10,7 @@ use lib.Dec.{leb}
 use lib.IntN.{ℤ}
 use lib.ListN.{length}
 use Rattle.cdi.specs.Faults.{Fault, fault, least, Answer, _andThen_, stage}
-use Rattle.cdi.specs.Markup.{reading, markupFaults}
+use Rattle.cdi.specs.Markup.{progress, markupFaults}
 use Rattle.cdi.specs.Tree.{tree}
 use Rattle.cdi.specs.Planning.{cut, markup}
 use Rattle.rules_judge.specs.declared.Least.{Least}
@@ -30,7 +30,7 @@ use Rattle.plan_stages.specs.Outlines.{Outline, ofMarkup, ofTree, inRoom, saidO
 use Rattle.plan_outline.proofs.Settling.{settledOf, settles}
 
 -- stages 4 to 12, by the least fault of stages 4 to 7
-marked : (c : List ℕ) (o : Option Fault) → least (markupFaults (length c) (reading [] 0) (cut c)) ≡ o → ofMarkup c ≡ (stage o (tree (cut c)) andThen ofTree)
+marked : (c : List ℕ) (o : Option Fault) → least (markupFaults (length c) (progress [] 0) (cut c)) ≡ o → ofMarkup c ≡ (stage o (tree (cut c)) andThen ofTree)
 unfolding ofMarkup markup ofTree
 marked c none e = rw e
 marked c (some f) e = rw e

@@ -16,7 +16,7 @@ use Rattle.cdi.specs.Tree.{Nodes}
 use Rattle.cdi.specs.Rules.{elementFaults}
 use Rattle.cdi.specs.Walk.{total}
 use Rattle.cdi.specs.Table.{tableOf, recordsOf}
-use Rattle.cdi.specs.Planning.{Description, describe, elements, leaving, addresses, counting}
+use Rattle.cdi.specs.Planning.{Description, describe, elements, leaving, addressing, counting}
 use Rattle.cdi.proofs.Quiet.{quiet}
 use Rattle.cdi.proofs.PlanOf.{length-table}
 use Rattle.scan.proofs.Tests.{lt-or-le}
@@ -59,16 +59,16 @@ unfolding counting
 counts-not d k = rw k
 
 -- stage 11
-keeps : (d : Description) → leaving 0 (d .segments) ≡ none → (addresses d andThen counting andThen outlined) ≡ (counting d andThen outlined)
-unfolding addresses
+keeps : (d : Description) → leaving 0 (d .segments) ≡ none → (addressing d andThen counting andThen outlined) ≡ (counting d andThen outlined)
+unfolding addressing
 keeps d k = rw k
 
-keeps-not : (d : Description) {f : Fault} → leaving 0 (d .segments) ≡ some f → (addresses d andThen counting andThen outlined) ≡ refused f
-unfolding addresses
+keeps-not : (d : Description) {f : Fault} → leaving 0 (d .segments) ≡ some f → (addressing d andThen counting andThen outlined) ≡ refused f
+unfolding addressing
 keeps-not d k = rw k
 
 -- stages 8 to 10
-clean : (u : Nodes) → least (elementFaults u) ≡ none → ofTree u ≡ (addresses (describe u u) andThen counting andThen outlined)
+clean : (u : Nodes) → least (elementFaults u) ≡ none → ofTree u ≡ (addressing (describe u u) andThen counting andThen outlined)
 unfolding ofTree elements
 clean u k = rw k
 
@@ -141,7 +141,7 @@ module _ (t : List ℤ) (u : Nodes) (st : State) (t′ : List ℤ) (q : folded s
             (λ m. ap (λ r. saidOf r t′) (sym (few-enough (st .gauge .records) (st .gauge .total) (st .root) m)) ∙ enough m)
             (lt-or-le 1000000 (st .gauge .total))
 
-      measures : (l : Leaves) → st .gauge .leaves ≡ l → saidOf (addressedBy l last) t′ ≡ (addresses told andThen counting andThen outlined)
+      measures : (l : Leaves) → st .gauge .leaves ≡ l → saidOf (addressedBy l last) t′ ≡ (addressing told andThen counting andThen outlined)
       unfolding G.asFault addressedBy saidOf
       measures Never e = let k = sym leaves-are ∙ ap G.asFault e in counted k ∙ sym (keeps told k)
       measures (At p) e = sym (keeps-not told (sym leaves-are ∙ ap G.asFault e))

@@ -9,7 +9,7 @@ use Rattle.cdi.specs.Faults.{fault, Answer, accepted, refused, _andThen_}
 use Rattle.cdi.specs.Tree.{Nodes}
 use Rattle.cdi.specs.Walk.{total}
 use Rattle.cdi.specs.Table.{tableOf, recordsOf}
-use Rattle.cdi.specs.Planning.{Description, Counts, markup, elements, addresses, counting, described, placed}
+use Rattle.cdi.specs.Planning.{Description, Counts, markup, elements, addressing, counting, described, placed}
 use Rattle.rules_judge.specs.declared.Least.{Least}
 use Rattle.rules_judge.specs.declared.Least.the-variants.{Nothing, Is}
 use Rattle.gauge_tag.specs.declared.Leaves.{Leaves}
@@ -37,11 +37,11 @@ outlineOf b = described b andThen outlined
 
 -- stages 4 to 12 of its content
 unfoldable pub ofMarkup : List ℕ → Answer Outline
-ofMarkup c = markup c andThen elements andThen addresses andThen counting andThen outlined
+ofMarkup c = markup c andThen elements andThen addressing andThen counting andThen outlined
 
 -- stages 8 to 12 of its tree
 unfoldable pub ofTree : Nodes → Answer Outline
-ofTree u = elements u andThen addresses andThen counting andThen outlined
+ofTree u = elements u andThen addressing andThen counting andThen outlined
 
 -- an outline whose rows are those for which so many numbers have room
 unfoldable pub inRoom : ℕ → Outline → Answer Outline

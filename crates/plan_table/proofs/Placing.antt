@@ -15,7 +15,7 @@ use lib.ListN.{length, take, drop, set, getD, length-set}
 use lib.Seq.{paste, paste-zero, paste-suc, take-length, take-all}
 use Rattle.cdi.specs.Faults.{fault, Answer, accepted, refused, _andThen_}
 use Rattle.cdi.specs.Table.{recordsOf}
-use Rattle.cdi.specs.Planning.{Description, markup, elements, addresses, counting, described, planned, countsOf, placed, tableAfter}
+use Rattle.cdi.specs.Planning.{Description, markup, elements, addressing, counting, described, planned, countsOf, placed, tableAfter}
 use Rattle.cdi.proofs.Quiet.{impossible}
 use Rattle.cdi.proofs.PlanOf.{length-table}
 use Rattle.scan.proofs.Tests.{lt-or-le}
@@ -102,7 +102,7 @@ whole-outlined (refused f) = tt
 
 whole-markup : (c : List ℕ) → Whole (ofMarkup c)
 unfolding ofMarkup
-whole-markup c = whole-outlined (markup c andThen elements andThen addresses andThen counting)
+whole-markup c = whole-outlined (markup c andThen elements andThen addressing andThen counting)
 
 -- of rows that were filled with what content describes, as far as there was room
 module _ (c : List ℕ) (r : List ℤ) (l : ℕ) {a : Planned} (e : saidOf a r ≡ (ofMarkup c andThen inRoom l)) where

@@ -21,7 +21,7 @@ use Rattle.cdi.specs.Table.{recordsOf, tableOf}
 use Rattle.cdi.specs.Plans.{placeOf, isPlan, segmentsOf, variableOf, locating}
 use Rattle.cdi.specs.Planning.{Description, describe, cut, described, planned, placed, tableAfter}
 use Rattle.cdi.specs.Access.{Setting, contentAt, exact, settingIn, settingOf, integer, string, isGoodText, firstCause, writeCauses, stored, startIn, written, windowAfter, read}
-use Rattle.cdi.specs.Values.{signed, padded}
+use Rattle.cdi.specs.Values.{withSign, padded}
 use Rattle.cdi.proofs.Tests.{both-right}
 use Rattle.cdi.proofs.Quiet.{impossible}
 use Rattle.cdi.proofs.PlanOf.{length-table}
@@ -82,8 +82,8 @@ text-in size at text new h q =
     rw e (sym (take-take (length text) size (drop at new) h) ∙ ap (take (length text)) q ∙ take-append-seam text _)
 
 -- a zero has no sign
-sign-of : (b : Bool) (m : ℕ) → signed (b && ltb 0 m) m ≡ signed b m
-unfolding signed
+sign-of : (b : Bool) (m : ℕ) → withSign (b && ltb 0 m) m ≡ withSign b m
+unfolding withSign
 sign-of false m = refl
 sign-of true zero = refl
 sign-of true (suc m) = rw (lt-ltb 0 (suc m) (omega arith))

@@ -12,9 +12,9 @@ use Rattle.cdi.specs.Faults.{Fault, fault, unless}
 use Rattle.cdi.specs.Pieces.{Attribute, Piece, start, finish, remark, refer, text, malformed, unsupported}
 use Rattle.cdi.specs.Tree.{Nodes, end, element, other}
 use Rattle.cdi.specs.Numbers.{bounded}
-use Rattle.cdi.specs.Markup.{Reading, next, pieceFaults, markupFaults}
+use Rattle.cdi.specs.Markup.{Progress, next, pieceFaults, markupFaults}
 use Rattle.cdi.specs.Rows.{Form, fixed, range, size, formatting, AttributeRule, ChildRule, Row, rowOf, documentRow}
-use Rattle.cdi.specs.Rules.{valueOf, rangeFaults, formFaults, ruleFaults, rulesFaults, attributeFaults, Before, nothingBefore, entryOf, childFaults, behind, missingFaults, strayFaults, numberFaults, boundFaults, ownNumber, numberNames, tested, sizeOf, intFaults, ownFaults, isKnown, isInt, faultsIn, elementFaults}
+use Rattle.cdi.specs.Rules.{attributeValue, rangeFaults, formFaults, ruleFaults, rulesFaults, attributeFaults, Before, nothingBefore, entryOf, childFaults, behind, missingFaults, strayFaults, numberFaults, boundFaults, ownNumber, numberNames, tested, sizeOf, intFaults, ownFaults, isKnown, isInt, faultsIn, elementFaults}
 use Rattle.cdi.specs.Walk.{Segment, segmentKeeps, afterSegment}
 use Rattle.cdi.specs.Planning.{leaving}
 
@@ -42,7 +42,7 @@ module _ {lo hi : ℕ} where
 
 -- ── 4 to 7 ──
 
-of-piece : (r : Reading) (p : ℕ) (c : Piece) → From 4 7 (pieceFaults r p c)
+of-piece : (r : Progress) (p : ℕ) (c : Piece) → From 4 7 (pieceFaults r p c)
 unfolding pieceFaults
 of-piece r p (start n s e) = joined (test _ _ (omega arith) (omega arith)) (joined (test _ _ (omega arith) (omega arith)) (test _ _ (omega arith) (omega arith)))
 of-piece r p (finish n) = test _ _ (omega arith) (omega arith)
@@ -52,7 +52,7 @@ of-piece r p (text s) = test _ _ (omega arith) (omega arith)
 of-piece r p malformed = one _ (omega arith) (omega arith)
 of-piece r p unsupported = one _ (omega arith) (omega arith)
 
-pub of-markup : (l : ℕ) (r : Reading) (cs : List (ℕ × Piece)) → From 4 7 (markupFaults l r cs)
+pub of-markup : (l : ℕ) (r : Progress) (cs : List (ℕ × Piece)) → From 4 7 (markupFaults l r cs)
 unfolding markupFaults
 of-markup l r [] = test _ _ (omega arith) (omega arith)
 of-markup l r (c ∷ cs) = joined (of-piece r (c .0) (c .1)) (of-markup l (next r (c .1)) cs)
@@ -73,7 +73,7 @@ of-form p formatting v = test _ _ (omega arith) (omega arith)
 
 of-rule : (p : ℕ) (a : AttributeRule) (s : List Attribute) → From 8 10 (ruleFaults p a s)
 unfolding ruleFaults
-of-rule p a s = by (valueOf (a .name) s)
+of-rule p a s = by (attributeValue (a .name) s)
   where
     by : (o : Option (List ℕ)) → From 8 10 (given o (unless (not (a .required)) (fault 8 p)) (formFaults p (a .form)))
     by none = test _ _ (omega arith) (omega arith)

@@ -14,11 +14,11 @@ use Rattle.scan.proofs.Tests.{lt-or-le}
 use Rattle.cdi.specs.Words.{begins}
 use Rattle.cdi.specs.Faults.{Fault, fault, before, lesser, least, accepted, refused}
 use Rattle.cdi.specs.Text.{zeroFrom, endOf, content, badCharacter, firstLine}
-use Rattle.cdi.specs.Markup.{reading}
+use Rattle.cdi.specs.Markup.{progress}
 use Rattle.cdi.specs.Tree.{tree}
 use Rattle.cdi.specs.Walk.{total}
 use Rattle.cdi.specs.Table.{recordsOf}
-use Rattle.cdi.specs.Planning.{describe, ending, characters, opening, cut, markup, elements, leaving, addresses, counting, described, countsOf, room, planned, tableAfter}
+use Rattle.cdi.specs.Planning.{describe, ending, characters, opening, cut, markup, elements, leaving, addressing, counting, described, countsOf, room, planned, tableAfter}
 use Rattle.cdi.specs.Access.{Window, Value, settingOf, written, windowAfter, read}
 use Rattle.cdi.proofs.Quiet.{impossible, quiet}
 use Rattle.cdi.proofs.Least as order
@@ -87,7 +87,7 @@ numbered (g ∷ fs) f (then l h x) (inl e) = rw e (l, h)
 numbered (g ∷ fs) f (then l h x) (inr a) = numbered fs f x a
 
 markup-number : (c : List ℕ) (f : Fault) → least (ofMarkup c) ≡ some f → (4 ≤ f .number) × (f .number ≤ 7)
-markup-number c f e = numbered (ofMarkup c) f (of-markup (length c) (reading [] 0) (cut c)) (least-among (ofMarkup c) f e)
+markup-number c f e = numbered (ofMarkup c) f (of-markup (length c) (progress [] 0) (cut c)) (least-among (ofMarkup c) f e)
 
 rule-number : (c : List ℕ) (f : Fault) → least (ofElements c) ≡ some f → (8 ≤ f .number) × (f .number ≤ 10)
 rule-number c f e = numbered (ofElements c) f (of-elements (tree (cut c))) (least-among (ofElements c) f e)
@@ -177,12 +177,12 @@ module _ (a b : List ℕ) (e : described a ≡ described b) where
 
 module _ (b : List ℕ) where
   pub counted-described : {c : List ℕ} → Counted b c → described b ≡ accepted (describe (tree (cut c)) (tree (cut c)))
-  unfolding described ending characters opening markup elements addresses counting least
+  unfolding described ending characters opening markup elements addressing counting least
   counted-described k = rw (k .0 .0 .0 .0 .0, k .0 .0 .0 .0 .1, k .0 .0 .0 .0 .2, k .0 .0 .0 .1, k .0 .0 .1, k .0 .1, le-leb _ _ (k .1))
 
   module _ (t : List ℤ) where
     pub cause-refused : {m p : ℕ} → Cause b t m p → planned b t ≡ refused (fault m p)
-    unfolding planned described ending characters opening markup elements addresses counting room least
+    unfolding planned described ending characters opening markup elements addressing counting room least
     cause-refused (why.endless e q s) = rw (e, q, s)
     cause-refused (why.character e f q) = rw (e, f, q)
     cause-refused (why.line e f g q s) = rw (e, f, g, q, s)

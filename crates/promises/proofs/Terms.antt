@@ -11,7 +11,7 @@ use lib.IntN.{ℤ}
 use lib.ListN.{length}
 use Rattle.cdi.specs.Words.{begins}
 use Rattle.cdi.specs.Text.{badCharacter, firstLine}
-use Rattle.cdi.specs.Markup.{reading, markupFaults}
+use Rattle.cdi.specs.Markup.{progress, markupFaults}
 use Rattle.cdi.specs.Tree.{tree}
 use Rattle.cdi.specs.Rules.{elementFaults}
 use Rattle.cdi.specs.Walk.{total}
@@ -52,7 +52,7 @@ Among f (g ∷ gs) = (f ≡ g) ⊎ Among f gs
 
 -- the faults of stages 4 to 7, and of stages 8 to 10
 abbrev pub ofMarkup : List ℕ → List Fault
-ofMarkup c = markupFaults (length c) (reading [] 0) (cut c)
+ofMarkup c = markupFaults (length c) (progress [] 0) (cut c)
 
 abbrev pub ofElements : List ℕ → List Fault
 ofElements c = elementFaults (tree (cut c))

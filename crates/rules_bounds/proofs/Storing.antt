@@ -11,8 +11,9 @@ use lib.IntN.{pos}
 use lib.ListN.{getD}
 use lib.Pow.{pow-add}
 use Rattle.cdi.specs.Rules.{smallest, largest}
+use Rattle.cdi.specs.Values.{withSign}
 use Rattle.cdi.proofs.Tests.{both-left, both-right}
-use Rattle.numbers.specs.Held.{withSign, lowOf, highOf}
+use Rattle.numbers.specs.Held.{lowOf, highOf}
 use Rattle.rules_judge.proofs.Below.{below, all-below}
 
 -- ── what a size can store ──

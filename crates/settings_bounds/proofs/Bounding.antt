@@ -15,10 +15,10 @@ use mir.Val.{Fits}
 use Rattle.cdi.specs.Words.{ascii, given}
 use Rattle.cdi.specs.Numbers.{within}
 use Rattle.cdi.specs.Rules.{boundOf, isSigned, largest, boundsOf}
-use Rattle.cdi.specs.Values.{signed}
+use Rattle.cdi.specs.Values.{withSign}
 use Rattle.cdi.specs.Access.{childOf}
 use Rattle.scan.proofs.Tests.{lt-or-le}
-use Rattle.numbers.specs.Held.{held, signedOf, numberOf, sizeOf, withSign, nearest, highOf as rangeHigh}
+use Rattle.numbers.specs.Held.{held, signedOf, numberOf, sizeOf, nearest, highOf as rangeHigh}
 use Rattle.numbers.specs.declared.Signed.{Signed}
 use Rattle.numbers.specs.declared.Number.{Number}
 use Rattle.numbers.specs.declared.Number.the-variants.{Is, Not}
@@ -158,28 +158,24 @@ pub ruleset bounding = (some-sign, no-sign, some-low, no-low, some-high, no-high
 
 -- ── between them ──
 
-same-sign : (b : Bool) (m : ℕ) → withSign b m ≡ signed b m
-unfolding withSign signed
-same-sign b m = refl
-
 module _ (s : List ℕ) (p : Part) (n : ℕ) (b : Bool) (m : ℕ) {min : Number} {low : Signed} (value : Signed) {t : Bool} (h : Fits w64 m) (e : min ≡ numberOf (childNumber (ascii "min") (nodesIn s p)))
     (l : low ≡ lowOf min) (v : nearest value ≡ withSign b m) (k : t ≡ leZ (nearest low) (nearest value)) where
-  low-test : t ≡ leZ (boundsOf n (contentIn s p) .min) (signed b m)
+  low-test : t ≡ leZ (boundsOf n (contentIn s p) .min) (withSign b m)
   low-test =
       k ∙ ap (λ x. leZ (nearest x) (nearest value)) (l ∙ low-is s p e n) ∙ ap (leZ (nearest (signedOf (boundsOf n (contentIn s p) .min)))) v
-      ∙ near-low (withSign b m) (small b m (h .fits)) (boundsOf n (contentIn s p) .min) ∙ ap (leZ (boundsOf n (contentIn s p) .min)) (same-sign b m)
+      ∙ near-low (withSign b m) (small b m (h .fits)) (boundsOf n (contentIn s p) .min)
 
-  pub below-min : t ≡ false → false ≡ within (boundsOf n (contentIn s p) .min) (boundsOf n (contentIn s p) .max) (signed b m)
+  pub below-min : t ≡ false → false ≡ within (boundsOf n (contentIn s p) .min) (boundsOf n (contentIn s p) .max) (withSign b m)
   unfolding within
   below-min f = sym (rw (sym low-test ∙ f))
 
   module _ {max : Number} {high : Signed} {u : Bool} (f : max ≡ numberOf (childNumber (ascii "max") (nodesIn s p))) (g : high ≡ highOf n min max) (q : u ≡ leZ (nearest value) (nearest high)) where
-    high-test : u ≡ leZ (signed b m) (boundsOf n (contentIn s p) .max)
+    high-test : u ≡ leZ (withSign b m) (boundsOf n (contentIn s p) .max)
     high-test =
         q ∙ ap (λ x. leZ (nearest value) (nearest x)) (g ∙ high-is s p e n f) ∙ ap (λ x. leZ x (nearest (signedOf (boundsOf n (contentIn s p) .max)))) v
-        ∙ near-high (withSign b m) (small b m (h .fits)) (boundsOf n (contentIn s p) .max) ∙ ap (λ x. leZ x (boundsOf n (contentIn s p) .max)) (same-sign b m)
+        ∙ near-high (withSign b m) (small b m (h .fits)) (boundsOf n (contentIn s p) .max)
 
-    pub from-min : t ≡ true → u ≡ within (boundsOf n (contentIn s p) .min) (boundsOf n (contentIn s p) .max) (signed b m)
+    pub from-min : t ≡ true → u ≡ within (boundsOf n (contentIn s p) .min) (boundsOf n (contentIn s p) .max) (withSign b m)
     unfolding within
     from-min x = high-test ∙ sym (rw (sym low-test ∙ x))
 

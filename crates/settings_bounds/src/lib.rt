@@ -12,7 +12,7 @@ ghost use Prim.Native.Nat.{_≤_};
 ghost use Rattle.cdi.specs.Words.{ascii};
 ghost use Rattle.cdi.specs.Numbers.{within};
 ghost use Rattle.cdi.specs.Rules.{boundOf, isSigned, largest, boundsOf};
-ghost use Rattle.cdi.specs.Values.{signed};
+ghost use Rattle.cdi.specs.Values.{withSign};
 ghost use Rattle.numbers.specs.Held.{signedOf};
 ghost use Rattle.children.specs.Siblings.{Inside};
 ghost use Rattle.settings.specs.Contents.{contentIn};
@@ -70,7 +70,7 @@ fn high_of(size: usize, min: Number, max: Number) -> Signed
 // Does the number lie within the bounds of the int with this content and size?
 pub fn is_in_bounds(s: &[u8], part: Part, size: usize, negative: bool, magnitude: u64) -> bool
     requires { ⌜ Inside (now s) part × (1 ≤ size) × (size ≤ 8) ⌝ }
-    ensures { λ r. ⌜ r ≡ within (boundsOf size (contentIn (now (s .entry)) part) .min) (boundsOf size (contentIn (now (s .entry)) part) .max) (signed negative magnitude) ⌝ }
+    ensures { λ r. ⌜ r ≡ within (boundsOf size (contentIn (now (s .entry)) part) .min) (boundsOf size (contentIn (now (s .entry)) part) .max) (withSign negative magnitude) ⌝ }
 {
     let value = with_sign(negative, magnitude);
     let min = child_number(s, part, b"min");

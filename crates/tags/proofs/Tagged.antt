@@ -15,7 +15,7 @@ use Rattle.cdi.specs.Words.{any, all, same, begins, isEmpty, after, words-page}
 use Rattle.cdi.specs.Faults.{least}
 use Rattle.cdi.specs.Pieces.{Attribute, blank, attributes, tagEnd, bears, twice}
 use Rattle.cdi.specs.Markup.{refers}
-use Rattle.cdi.specs.Rules.{attributeFaults, valueOf, sizeText}
+use Rattle.cdi.specs.Rules.{attributeFaults, attributeValue, sizeText}
 use Rattle.cdi.proofs.Quiet.{impossible, same-equal}
 use Rattle.scan.specs.Spans.{Span}
 use Rattle.scan.proofs.Along.{drop-next}
@@ -239,9 +239,9 @@ module _ (s : List ℕ) (n e : ℕ) {a : Bool} (w : a ≡ begins (62 ∷ []) (dr
     none′ = λ q. absurd (omega arith);
     refer = λ q. unfold refers any in rw no-attributes;
     alone = λ q. unfold isEmpty in rw no-attributes;
-    told = λ q p. ap (λ (xs : List Attribute). least (attributeFaults p (Rattle.rules_judge.specs.Judging.rowAt e) xs)) no-attributes ∙ told e p {codes = []} {exact = 1} {t = true} [] none-coded (unfold words-page tables-page sizeText valueOf in refl) (unfold all in refl) ∙ ap (λ (m : ℕ). least (faultsAt p m)) (sym x);
+    told = λ q p. ap (λ (xs : List Attribute). least (attributeFaults p (Rattle.rules_judge.specs.Judging.rowAt e) xs)) no-attributes ∙ told e p {codes = []} {exact = 1} {t = true} [] none-coded (unfold words-page tables-page sizeText attributeValue in refl) (unfold all in refl) ∙ ap (λ (m : ℕ). least (faultsAt p m)) (sym x);
     small = omega (arith, x, fault-small e {codes = []} 1 true [] none-coded);
-    size = λ q. unfold words-page tables-page sizeText valueOf in rw no-attributes;
+    size = λ q. unfold words-page tables-page sizeText attributeValue in rw no-attributes;
     numbers = λ q. rw no-attributes y;
     bounded = λ q. b;
   }

@@ -17,7 +17,7 @@ use Rattle.cdi.specs.Faults.{Fault, fault, unless, before, lesser, least}
 use Rattle.cdi.specs.Pieces.{Attribute}
 use Rattle.cdi.specs.Numbers.{number, within}
 use Rattle.cdi.specs.Rows.{Form, fixed, range, size, formatting, AttributeRule, rows-page}
-use Rattle.cdi.specs.Rules.{valueOf, isFormatting, rangeFaults, formFaults, ruleFaults, rulesFaults, known, attributeFaults, sizeText}
+use Rattle.cdi.specs.Rules.{attributeValue, isFormatting, rangeFaults, formFaults, ruleFaults, rulesFaults, known, attributeFaults, sizeText}
 use Rattle.cdi.proofs.Least.{least-append}
 use Rattle.cdi.proofs.Quiet.{same-comm}
 use Rattle.scan.proofs.Tests.{lt-or-le, eq-or-ne}
@@ -70,9 +70,9 @@ unfolding RuleIs
 rule-is zero z h = absurd (z refl)
 rule-is (suc j) z h = at-below RuleIs 12 rules-are j (omega arith)
 
-rule-faults : (p k : ℕ) (s : List Attribute) → (k ≡ 0 → ⊥) → k ≤ 12 → rulesFaults p (ruleOf k) s ≡ given (valueOf (attributeName (attributeOf k)) s) (unless (not (isRequired k)) (fault 8 p)) (formFaults p (formOf k))
+rule-faults : (p k : ℕ) (s : List Attribute) → (k ≡ 0 → ⊥) → k ≤ 12 → rulesFaults p (ruleOf k) s ≡ given (attributeValue (attributeName (attributeOf k)) s) (unless (not (isRequired k)) (fault 8 p)) (formFaults p (formOf k))
 unfolding rulesFaults ruleFaults
-rule-faults p k s z h = rw (rule-is k z h) (append-nil (given (valueOf (attributeName (attributeOf k)) s) (unless (not (isRequired k)) (fault 8 p)) (formFaults p (formOf k))))
+rule-faults p k s z h = rw (rule-is k z h) (append-nil (given (attributeValue (attributeName (attributeOf k)) s) (unless (not (isRequired k)) (fault 8 p)) (formFaults p (formOf k))))
 
 -- the attributes of rules: from 1 to 10; and a rule but for those of sizes is the one that a value is held against
 for-rules : all-below 12 (λ j. (leb 1 (attributeOf (suc j)) && leb (attributeOf (suc j)) 10) && (eqb (suc j) 10 || (eqb (suc j) 11 || eqb (ruleFor (attributeOf (suc j))) (suc j)))) ≡ true
@@ -105,15 +105,15 @@ module _ (p : ℕ) {codes : List ℕ} {exact : ℕ} (s : List Attribute) (w : Co
   -- a rule that asks for no exact size
   plain-rule : (k : ℕ) → (k ≡ 0 → ⊥) → k ≤ 12 → (k ≡ 10 → ⊥) → (k ≡ 11 → ⊥) → rulesFaults p (ruleOf k) s ≡ faultsAt p (cond (isRequired k) (neededBy (getD codes (attributeOf k) 0)) (ownBy (getD codes (attributeOf k) 0)))
   unfolding unless faultsAt neededBy ownBy
-  plain-rule k z h a b = rule-faults p k s z h ∙ by (valueOf (attributeName (attributeOf k)) s) refl (isRequired k) refl
+  plain-rule k z h a b = rule-faults p k s z h ∙ by (attributeValue (attributeName (attributeOf k)) s) refl (isRequired k) refl
     where
-      code : getD codes (attributeOf k) 0 ≡ given (valueOf (attributeName (attributeOf k)) s) 0 (codeOf (attributeOf k))
+      code : getD codes (attributeOf k) 0 ≡ given (attributeValue (attributeName (attributeOf k)) s) 0 (codeOf (attributeOf k))
       code = w .each (attributeOf k) (attribute-low k z h) (attribute-high k z h) ∙ (unfold codeIn in rw (numbered-named (attributeOf k) s (attribute-low k z h) (attribute-high k z h)))
 
       form : (v : List ℕ) → codeOf (attributeOf k) v ≡ formCode (formOf k) v
       form v = unfold codeOf in rw (its-rule k z h a b)
 
-      by : (o : Option (List ℕ)) → valueOf (attributeName (attributeOf k)) s ≡ o → (t : Bool) → isRequired k ≡ t
+      by : (o : Option (List ℕ)) → attributeValue (attributeName (attributeOf k)) s ≡ o → (t : Bool) → isRequired k ≡ t
           → given o (unless (not t) (fault 8 p)) (formFaults p (formOf k)) ≡ faultsAt p (cond t (neededBy (getD codes (attributeOf k) 0)) (ownBy (getD codes (attributeOf k) 0)))
       by none e true f = let c : getD codes (attributeOf k) 0 ≡ 0 = code ∙ rw e in rw c
       by none e false f = let c : getD codes (attributeOf k) 0 ≡ 0 = code ∙ rw e in rw c
@@ -126,29 +126,29 @@ module _ (p : ℕ) {codes : List ℕ} {exact : ℕ} (s : List Attribute) (w : Co
           either false c h = refl
 
   -- the sizes of an int and of a float
-  sized : (k : ℕ) → (k ≡ 0 → ⊥) → k ≤ 12 → attributeName (attributeOf k) ≡ ascii "size" → rulesFaults p (ruleOf k) s ≡ given (valueOf (ascii "size") s) (unless (not (isRequired k)) (fault 8 p)) (formFaults p (formOf k))
+  sized : (k : ℕ) → (k ≡ 0 → ⊥) → k ≤ 12 → attributeName (attributeOf k) ≡ ascii "size" → rulesFaults p (ruleOf k) s ≡ given (attributeValue (ascii "size") s) (unless (not (isRequired k)) (fault 8 p)) (formFaults p (formOf k))
   sized k z h e = rule-faults p k s z h ∙ rw e
 
   int-rule : rulesFaults p (ruleOf 10) s ≡ faultsAt p (intBy exact)
   unfolding unless faultsAt intBy intSize sizeText
-  int-rule = sized 10 (λ z. omega arith) (omega arith) (unfold words-page tables-page in refl) ∙ by (valueOf (ascii "size") s) refl
+  int-rule = sized 10 (λ z. omega arith) (omega arith) (unfold words-page tables-page in refl) ∙ by (attributeValue (ascii "size") s) refl
     where
       told : (n : ℕ) → unless (leb 1 n) (fault 10 p) ≡ faultsAt p (cond (ltb n 1) 10 0)
       told n = ⊎-elim (λ (h : n < 1). rw (lt-ltb n 1 h, lt-leb 1 n h)) (λ (h : 1 ≤ n). rw (le-ltb n 1 h, le-leb 1 n h)) (lt-or-le n 1)
 
-      by : (o : Option (List ℕ)) → valueOf (ascii "size") s ≡ o → given o (unless (not (isRequired 10)) (fault 8 p)) (formFaults p (formOf 10)) ≡ faultsAt p (cond (ltb exact 1) 10 0)
+      by : (o : Option (List ℕ)) → attributeValue (ascii "size") s ≡ o → given o (unless (not (isRequired 10)) (fault 8 p)) (formFaults p (formOf 10)) ≡ faultsAt p (cond (ltb exact 1) 10 0)
       by none e = let q : exact ≡ 1 = x ∙ (unfold tables-page words-page in rw e) in rw q (unfold tables-page in refl)
       by (some v) e =
           let q : exact ≡ sizeIn v = x ∙ rw e in
           let f : formFaults p (formOf 10) v ≡ unless (leb 1 (sizeIn v)) (fault 10 p) = unfold formFaults rows-page tables-page in rw (int-size v) in
           f ∙ told (sizeIn v) ∙ rw q
 
-  size-code : getD codes 9 0 ≡ given (valueOf (ascii "size") s) 0 (codeOf 9)
+  size-code : getD codes 9 0 ≡ given (attributeValue (ascii "size") s) 0 (codeOf 9)
   size-code = w .each 9 (omega arith) (omega arith) ∙ (unfold codeIn words-page tables-page in rw (numbered-named 9 s (omega arith) (omega arith)))
 
   float-rule : rulesFaults p (ruleOf 11) s ≡ faultsAt p (floatBy (getD codes 9 0) exact)
   unfolding unless faultsAt floatBy intSize sizeText
-  float-rule = sized 11 (λ z. omega arith) (omega arith) (unfold words-page tables-page in refl) ∙ by (valueOf (ascii "size") s) refl
+  float-rule = sized 11 (λ z. omega arith) (omega arith) (unfold words-page tables-page in refl) ∙ by (attributeValue (ascii "size") s) refl
     where
       there : (v : List ℕ) → 1 ≤ codeOf 9 v
       there v = unfold codeOf in form-codes (formOf (ruleFor 9)) v .0
@@ -156,7 +156,7 @@ module _ (p : ℕ) {codes : List ℕ} {exact : ℕ} (s : List Attribute) (w : Co
       told : (n : ℕ) → unless (leb 2 n) (fault 10 p) ≡ faultsAt p (cond (ltb n 2) 10 0)
       told n = ⊎-elim (λ (h : n < 2). rw (lt-ltb n 2 h, lt-leb 2 n h)) (λ (h : 2 ≤ n). rw (le-ltb n 2 h, le-leb 2 n h)) (lt-or-le n 2)
 
-      by : (o : Option (List ℕ)) → valueOf (ascii "size") s ≡ o → given o (unless (not (isRequired 11)) (fault 8 p)) (formFaults p (formOf 11)) ≡ faultsAt p (cond (eqb (getD codes 9 0) 0) 8 (cond (ltb exact 2) 10 0))
+      by : (o : Option (List ℕ)) → attributeValue (ascii "size") s ≡ o → given o (unless (not (isRequired 11)) (fault 8 p)) (formFaults p (formOf 11)) ≡ faultsAt p (cond (eqb (getD codes 9 0) 0) 8 (cond (ltb exact 2) 10 0))
       by none e = let c : getD codes 9 0 ≡ 0 = size-code ∙ rw e in rw c (unfold tables-page in refl)
       by (some v) e =
           let q : exact ≡ sizeIn v = x ∙ rw e in

@@ -14,7 +14,7 @@ use lib.Seq.{getD-set-same, getD-set-other}
 use Rattle.cdi.specs.Words.{ascii, any, all, same, words-page}
 use Rattle.cdi.specs.Pieces.{Attribute, attributes}
 use Rattle.cdi.specs.Markup.{refers}
-use Rattle.cdi.specs.Rules.{valueOf, sizeText}
+use Rattle.cdi.specs.Rules.{attributeValue, sizeText}
 use Rattle.scan.proofs.Tests.{eq-or-ne}
 use Rattle.names.specs.Names.{attributeNumber}
 use Rattle.names.proofs.Positions.{attribute-high}
@@ -144,11 +144,11 @@ size-named : (n : List ℕ) → same (ascii "size") n ≡ eqb (attributeNumber n
 size-named n = unfold words-page tables-page in by-number 9 n (omega arith) (omega arith)
 
 front-size : (x : Attribute) (rest : List Attribute) → attributeNumber (x .name) ≡ 9 → intSize (x ∷ rest) ≡ sizeIn (x .value)
-unfolding intSize sizeText valueOf
+unfolding intSize sizeText attributeValue
 front-size x rest e = rw (size-named (x .name), eq-eqb _ _ e)
 
 behind-size : (x : Attribute) (rest : List Attribute) → (attributeNumber (x .name) ≡ 9 → ⊥) → intSize (x ∷ rest) ≡ intSize rest
-unfolding intSize sizeText valueOf
+unfolding intSize sizeText attributeValue
 behind-size x rest e = rw (size-named (x .name), ne-eqb _ _ e)
 
 module _ {s rest : List Attribute} {x : Attribute} {codes amounts : List ℕ} {exact : ℕ} (w : Noted s (x ∷ rest) codes amounts exact) {a : ℕ} (e : a ≡ attributeNumber (x .name)) where
@@ -397,7 +397,7 @@ module _ {e at : ℕ} {s : List ℕ} {i : ℕ} {codes amounts : List ℕ} {count
         and-true false = refl
 
         no-size : intSize [] ≡ 1
-        no-size = unfold words-page tables-page sizeText valueOf in refl
+        no-size = unfold words-page tables-page sizeText attributeValue in refl
 
         size : cond (eqb (getD codes 9 0) 0) (intSize (attributes 0 (drop i s))) exact ≡ exact
         size = ⊎-elim

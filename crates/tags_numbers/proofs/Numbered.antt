@@ -19,15 +19,15 @@ use Rattle.cdi.specs.Words.{ascii, _>>=_, given, between, words-page}
 use Rattle.cdi.specs.Pieces.{Attribute}
 use Rattle.cdi.specs.Numbers.{number, within}
 use Rattle.cdi.specs.Rows.{rows-page}
-use Rattle.cdi.specs.Rules.{valueOf, natural}
+use Rattle.cdi.specs.Rules.{attributeValue, natural}
 use Rattle.cdi.specs.Plans.{offsetFits}
 use Rattle.cdi.specs.Planning.{numberOr, offsetOf}
+use Rattle.cdi.specs.Values.{withSign}
 use Rattle.scan.proofs.Tests.{eq-or-ne}
 use Rattle.rules_judge.specs.Tables.{tables-page}
 use Rattle.tags_values.specs.Codes.{rangeCode, rangeAmount, codeIn, amountIn, Celled, codes-page}
 use Rattle.tags_values.proofs.Numbered.{numbered-named}
 use Rattle.extent.proofs.Signed.{read, read-is}
-use Rattle.numbers.specs.Held.{withSign}
 use Rattle.gauge_tag.specs.declared.Numbers.{Numbers}
 use Rattle.gauge_tag.specs.Gauging.{from-to}
 use Rattle.gauge_tag.specs.Numbered.{Ranged, naturalIn, offsetIn, sizeBy, numbersBy}
@@ -74,23 +74,23 @@ signed-is (negsuc k) true = refl
 module _ (s : List Attribute) where
   pub space-in : amountIn 5 s ≡ naturalIn 0 255 (ascii "space") s
   unfolding words-page tables-page codes-page naturalIn numberOr
-  space-in = rw (numbered-named 5 s (omega arith) (omega arith)) (amount-natural 0 255 (valueOf (ascii "space") s))
+  space-in = rw (numbered-named 5 s (omega arith) (omega arith)) (amount-natural 0 255 (attributeValue (ascii "space") s))
 
   pub origin-in : amountIn 6 s ≡ naturalIn 0 2147483647 (ascii "origin") s
   unfolding words-page tables-page codes-page naturalIn numberOr
-  origin-in = rw (numbered-named 6 s (omega arith) (omega arith)) (amount-natural 0 2147483647 (valueOf (ascii "origin") s))
+  origin-in = rw (numbered-named 6 s (omega arith) (omega arith)) (amount-natural 0 2147483647 (attributeValue (ascii "origin") s))
 
   pub copies-in : amountIn 7 s ≡ naturalIn 1 2147483647 (ascii "replication") s
   unfolding words-page tables-page codes-page naturalIn numberOr
-  copies-in = rw (numbered-named 7 s (omega arith) (omega arith)) (amount-natural 1 2147483647 (valueOf (ascii "replication") s))
+  copies-in = rw (numbered-named 7 s (omega arith) (omega arith)) (amount-natural 1 2147483647 (attributeValue (ascii "replication") s))
 
   pub size-in : amountIn 9 s ≡ naturalIn 1 65535 (ascii "size") s
   unfolding words-page tables-page codes-page naturalIn numberOr
-  size-in = rw (numbered-named 9 s (omega arith) (omega arith)) (amount-natural 1 65535 (valueOf (ascii "size") s))
+  size-in = rw (numbered-named 9 s (omega arith) (omega arith)) (amount-natural 1 65535 (attributeValue (ascii "size") s))
 
   pub offset-in : offsetBy (codeIn 8 s) (amountIn 8 s) ≡ offsetIn s
   unfolding words-page tables-page rows-page codes-page offsetIn offsetOf numberOr offsetFits
-  offset-in = rw (numbered-named 8 s (omega arith) (omega arith)) (by (valueOf (ascii "offset") s))
+  offset-in = rw (numbered-named 8 s (omega arith) (omega arith)) (by (attributeValue (ascii "offset") s))
     where
       lo : ℤ
       lo = negℤ (pos 2147483648)

@@ -10,7 +10,7 @@ use lib.Dec.{eqb}
 use lib.ListN.{getD}
 use Rattle.cdi.specs.Words.{same, words-page}
 use Rattle.cdi.specs.Pieces.{Attribute}
-use Rattle.cdi.specs.Rules.{valueOf}
+use Rattle.cdi.specs.Rules.{attributeValue}
 use Rattle.cdi.proofs.Quiet.{same-self, same-equal}
 use Rattle.scan.proofs.Tests.{eq-or-ne}
 use Rattle.names.specs.Names.{attributeNames, attributeNumber}
@@ -50,7 +50,7 @@ by-number a n l h = ⊎-elim yes no (eq-or-ne (attributeNumber n) a)
         by true q = absurd (e (kth .1 (sym (same-equal (attributeName a) n q) ∙ word) ∙ back))
         by false q = refl
 
-pub numbered-named : (a : ℕ) (s : List Attribute) → 1 ≤ a → a ≤ 10 → numbered a s ≡ valueOf (attributeName a) s
-unfolding numbered valueOf
+pub numbered-named : (a : ℕ) (s : List Attribute) → 1 ≤ a → a ≤ 10 → numbered a s ≡ attributeValue (attributeName a) s
+unfolding numbered attributeValue
 numbered-named a [] l h = refl
 numbered-named a (x ∷ s) l h = rw (by-number a (x .name) l h, numbered-named a s l h)

@@ -9,7 +9,7 @@ use native.Mathlib.Omega.{arith}
 use borrow.Author.Needs.{needs}
 use borrow.Author.Tests.{le-leb, lt-leb}
 use lib.IntN.{pos, negℤ}
-use Rattle.cdi.specs.Values.{signed, bytesOf, complement, uncomplement}
+use Rattle.cdi.specs.Values.{withSign, bytesOf, complement, uncomplement}
 use Rattle.cdi.proofs.Quiet.{impossible}
 use Rattle.cdi.proofs.Bytes.{halves}
 use Rattle.values.specs.declared.Whole.{Whole}
@@ -44,15 +44,15 @@ pub ruleset most-of = (no-byte, most-room, one-byte, all-bytes, needs)
 
 module _ (n : ℕ) (w : Whole) where
   pub above-zero : w .negative ≡ false → w .magnitude ≡ complement n (wholeOf w)
-  unfolding wholeOf signed complement
+  unfolding wholeOf withSign complement
   above-zero e = rw e
 
   pub minus-zero : w .negative ≡ true → w .magnitude ≡ 0 → 0 ≡ complement n (wholeOf w)
-  unfolding wholeOf signed complement
+  unfolding wholeOf withSign complement
   minus-zero e f = rw (e, f)
 
   pub below-zero : (m : ℕ) → w .negative ≡ true → (w .magnitude ≡ 0 → ⊥) → m + 1 ≡ 256 ^ n → m - (w .magnitude - 1) ≡ complement n (wholeOf w)
-  unfolding wholeOf signed complement
+  unfolding wholeOf withSign complement
   below-zero m e f l = rw e (by (w .magnitude) f)
     where
       by : (k : ℕ) → (k ≡ 0 → ⊥) → m - (k - 1) ≡ complement n (negℤ (pos k))
@@ -68,16 +68,16 @@ pub ruleset complementing = (above-zero, minus-zero, below-zero, not-too-far, ne
 
 module _ (n v : ℕ) where
   pub unsigned : {s : Bool} → s ≡ false → wholeOf (record { negative = false; magnitude = v }) ≡ uncomplement s n v
-  unfolding wholeOf signed uncomplement
+  unfolding wholeOf withSign uncomplement
   unsigned e = rw e
 
   module _ {s : Bool} (m : ℕ) (e : s ≡ true) (l : 1 ≤ n) (q : m + 1 ≡ 256 ^ n) where
     pub lower-half : v ≤ m / 2 → wholeOf (record { negative = false; magnitude = v }) ≡ uncomplement s n v
-    unfolding wholeOf signed uncomplement
+    unfolding wholeOf withSign uncomplement
     lower-half h = let k : v < 2 ^ (8 * n - 1) = omega (arith, halves n l) in rw (e, lt-leb (2 ^ (8 * n - 1)) v k)
 
     pub upper-half : m / 2 < v → v < 256 ^ n → wholeOf (record { negative = true; magnitude = m - v + 1 }) ≡ uncomplement s n v
-    unfolding wholeOf signed uncomplement
+    unfolding wholeOf withSign uncomplement
     upper-half h u =
         let k : 2 ^ (8 * n - 1) ≤ v = omega (arith, halves n l) in
         let d : m - v + 1 ≡ 256 ^ n - v = omega arith in

@@ -7,7 +7,7 @@ use native.Mathlib.Omega.{arith}
 use lib.IntN.{ℤ, pos, negsuc, natAbs}
 use lib.ListN.{length}
 use Rattle.cdi.specs.Text.{zeroFrom}
-use Rattle.cdi.specs.Values.{signed, bytesOf, valueOf, complement, uncomplement, padded}
+use Rattle.cdi.specs.Values.{withSign, bytesOf, valueOf, complement, uncomplement, padded}
 use Rattle.cdi.proofs.Quiet.{impossible}
 use Rattle.values.specs.declared.Whole.{Whole}
 use Rattle.values.specs.declared.Zero.{Zero}
@@ -36,8 +36,8 @@ abbrev whole : Bool → ℕ → Whole
 whole b m = record { negative = b; magnitude = m }
 
 -- a magnitude, and a sign where zero is not negative, are known by the number
-size : (b : Bool) (m : ℕ) → natAbs (signed b m) ≡ m
-unfolding signed
+size : (b : Bool) (m : ℕ) → natAbs (withSign b m) ≡ m
+unfolding withSign
 size false m = refl
 size true zero = refl
 size true (suc m) = refl
@@ -46,8 +46,8 @@ isBelow : ℤ → Bool
 isBelow (pos m) = false
 isBelow (negsuc m) = true
 
-sign : (b : Bool) (m : ℕ) → (b ≡ true → 0 < m) → isBelow (signed b m) ≡ b
-unfolding signed isBelow
+sign : (b : Bool) (m : ℕ) → (b ≡ true → 0 < m) → isBelow (withSign b m) ≡ b
+unfolding withSign isBelow
 sign false m h = refl
 sign true zero h = absurd (omega (arith, h refl))
 sign true (suc m) h = refl

@@ -4,13 +4,13 @@ use mathlib.Core.Bool.{true}
 use mathlib.Core.Option.{Option, none, some}
 use Prim.Native.Nat.{ℕ, _<_}
 use lib.IntN.{ℤ}
-use Rattle.cdi.specs.Values.{signed}
+use Rattle.cdi.specs.Values.{withSign}
 use Rattle.values.specs.declared.Whole.{Whole}
 use Rattle.values.specs.declared.Zero.{Zero}
 use Rattle.values.specs.declared.Zero.the-variants.{At, Missing}
 
 unfoldable pub wholeOf : Whole → ℤ
-wholeOf w = signed (w .negative) (w .magnitude)
+wholeOf w = withSign (w .negative) (w .magnitude)
 
 -- zero is not negative
 unfoldable pub Plain : Whole → Type 0

@@ -22,7 +22,7 @@ use Rattle.cdi.specs.Faults.{Answer, accepted, refused, fault}
 use Rattle.cdi.specs.Walk.{Found}
 use Rattle.cdi.specs.Plans.{locating}
 use Rattle.cdi.specs.Planning.{Counts, planned, tableAfter}
-use Rattle.cdi.specs.Values.{signed}
+use Rattle.cdi.specs.Values.{withSign}
 use Rattle.cdi.specs.Access.{Window, Value, integer, event, string, written, windowAfter, Reading, read}
 use Rattle.cdi.specs.Worked.{all-pages}
 ";
@@ -121,7 +121,7 @@ fn question(case: &Case, text: &str) -> (Vec<u8>, String) {
         Case::Locate { table: lent, n } => (Vec::new(), format!("locating {} {n}", table(lent))),
         Case::WriteInteger { access, negative, magnitude } => (
             access.text.clone(),
-            format!("writes {text} {} (integer (signed {negative} {magnitude}))", accessed(access)),
+            format!("writes {text} {} (integer (withSign {negative} {magnitude}))", accessed(access)),
         ),
         Case::WriteEvent { access, value } => {
             (access.text.clone(), format!("writes {text} {} (event {value})", accessed(access)))
