@@ -6,35 +6,36 @@ use mathlib.Core.Bool.{true, false}
 use mathlib.Core.Option.{none, some}
 use lib.IntN.{pos}
 use lib.ListN.{replicate}
+use Rattle.cdi.specs.Words.{ascii}
 use Rattle.cdi.specs.Faults.{fault, least}
 use Rattle.cdi.specs.Text.{content}
 use Rattle.cdi.specs.Values.{withSign}
 use Rattle.cdi.specs.Access.{integer}
-use Rattle.cdi.specs.Worked.{all-pages, opened, single, Ask, plans, writes, Told, refusal, values, toldOf, lent, window, answer}
+use Rattle.cdi.specs.Worked.{all-pages, opened, single, Ask, plans, writes, Told, refusal, values, storedAs, toldOf, countsTold, lent, window, answer}
 
 unfoldable pub slips : List (Ask × Told)
 slips =
     -- an int is not signed because min is present: 200 can be stored
-    (writes "<int><min>0</min><max>200</max></int>" 1 (integer (withSign false 200)), values (map pos (200 ∷ [])))
+    (writes "<int><min>0</min><max>200</max></int>" (integer (withSign false 200)), storedAs (200 ∷ ascii "eftovers"))
     -- minus zero is not below zero
-    ∷ (writes "<int><min>-0</min><max>200</max></int>" 1 (integer (withSign true 0)), values (map pos (0 ∷ [])))
+    ∷ (writes "<int><min>-0</min><max>200</max></int>" (integer (withSign true 0)), storedAs (0 ∷ ascii "eftovers"))
     -- 04 is a number and no size
-    ∷ (plans (single "<int size=\"04\"/>") 16, refusal 10 174)
+    ∷ (plans (single "<int size=\"04\"/>") 16, refusal 10 174 (lent 16))
     -- the smaller place speaks, though a smaller number stands behind it
-    ∷ (plans (single "<int offset=\"4294967296\"/><unknown/>") 16, refusal 10 174)
+    ∷ (plans (single "<int offset=\"4294967296\"/><unknown/>") 16, refusal 10 174 (lent 16))
     -- no `--` inside a comment, at its end neither
-    ∷ (plans (single "<!-- a --->") 16, refusal 4 174)
+    ∷ (plans (single "<!-- a --->") 16, refusal 4 174 (lent 16))
     -- a reference to a carriage return is one to an XML character, and as text between children it is stray
-    ∷ (plans (single "&#13;") 16, refusal 8 174)
+    ∷ (plans (single "&#13;") 16, refusal 8 174 (lent 16))
     -- a group without members adds its offset once, whatever its replication
     ∷ (
       plans (single "<group replication=\"2\" offset=\"5\"/>") 16,
-      values (map pos (1 ∷ 155 ∷ 0 ∷ 1 ∷ 1 ∷ 2 ∷ 0 ∷ 5 ∷ 2 ∷ 174 ∷ 5 ∷ 0 ∷ 2 ∷ 2 ∷ 0 ∷ 5 ∷ [])),
+      values (pos 2 ∷ pos 0 ∷ []) (map pos (1 ∷ 155 ∷ 0 ∷ 1 ∷ 1 ∷ 2 ∷ 0 ∷ 5 ∷ 2 ∷ 174 ∷ 5 ∷ 0 ∷ 2 ∷ 2 ∷ 0 ∷ 5 ∷ [])),
     )
     ∷ []
 
 pub come-out : map (λ c. answer (c .0)) slips ≡ map (λ c. c .1) slips
-unfolding all-pages opened single toldOf lent window answer slips
+unfolding all-pages opened single toldOf countsTold lent window answer slips
 come-out = refl
 
 -- of several faults the one at the smallest place, and there the one with the smallest number

@@ -5,7 +5,7 @@ use mathlib.Core.Bool.{true, false}
 use Prim.Native.Nat.{ℕ, _-_, _^_}
 use Prim.Native.String.{String}
 use lib.IntN.{ℤ, pos, negsuc}
-use lib.ListN.{replicate, take}
+use lib.ListN.{replicate}
 use Rattle.cdi.specs.Words.{ascii, words-page}
 use Rattle.cdi.specs.Faults.{Answer, accepted, refused, faults-page}
 use Rattle.cdi.specs.Text.{firstLine, text-page}
@@ -18,7 +18,7 @@ use Rattle.cdi.specs.Rules.{rules-page}
 use Rattle.cdi.specs.Walk.{Found, walk-page}
 use Rattle.cdi.specs.Table.{table-page}
 use Rattle.cdi.specs.Plans.{locating, plans-page}
-use Rattle.cdi.specs.Planning.{planned, tableAfter, planning-page}
+use Rattle.cdi.specs.Planning.{Counts, planned, tableAfter, planning-page}
 use Rattle.cdi.specs.Values.{withSign, values-page}
 use Rattle.cdi.specs.Access.{Window, Value, integer, string, written, windowAfter, access-page}
 
@@ -43,24 +43,28 @@ T = textWith "<segment space=\"253\" origin=\"128\"><int/><group replication=\"3
 unfoldable pub single : String → List ℕ
 single s = opened ++ (ascii "<segment space=\"1\">" ++ (ascii s ++ (ascii "</segment></cdi>" ++ (0 ∷ []))))
 
--- what a case asks: a text planned with room for n numbers; variable n of that text's table; a value written to a single variable of size n
+-- what a case asks: a text planned with room for n numbers; variable n of that text's table; a value written to a single variable
 pub data Ask : Type 0 where
   plans : List ℕ → ℕ → Ask
   locates : List ℕ → ℕ → ℕ → Ask
-  writes : String → ℕ → Value → Ask
+  writes : String → Value → Ask
 
--- what it is told: a refusal's number and place, or the numbers of the answer and of the lent memory
+-- what it is told, a refusal's number and place or the numbers of the answer; and all of the lent memory afterwards
 pub data Told : Type 0 where
-  refusal : ℕ → ℕ → Told
-  values : List ℤ → Told
+  refusal : ℕ → ℕ → List ℤ → Told
+  values : List ℤ → List ℤ → Told
 
-unfoldable pub toldOf : {A : Type 0} → List ℤ → Answer A → Told
-toldOf ns (accepted a) = values ns
-toldOf ns (refused f) = refusal (f .number) (f .place)
+unfoldable pub toldOf : {A : Type 0} → (A → List ℕ) → List ℤ → Answer A → Told
+toldOf numbers memory (accepted a) = values (map pos (numbers a)) memory
+toldOf numbers memory (refused f) = refusal (f .number) (f .place) memory
 
-unfoldable pub foundTold : Answer Found → Told
-foundTold (refused f) = refusal (f .number) (f .place)
-foundTold (accepted v) = values (map pos (v .number ∷ v .space ∷ v .address ∷ v .size ∷ v .kind ∷ []))
+-- "the number of records and of variables"
+unfoldable pub countsTold : Counts → List ℕ
+countsTold c = c .records ∷ c .variables ∷ []
+
+-- record, space, address, size and kind
+unfoldable pub foundTold : Found → List ℕ
+foundTold v = v .number ∷ v .space ∷ v .address ∷ v .size ∷ v .kind ∷ []
 
 unfoldable pub lent : ℕ → List ℤ
 lent n = replicate n (pos 0)
@@ -70,18 +74,29 @@ unfoldable pub window : Window
 window = record { space = 1; first = 0; bytes = ascii "leftovers" }
 
 unfoldable pub answer : Ask → Told
-answer (plans b n) = toldOf (tableAfter b (lent n)) (planned b (lent n))
-answer (locates b n k) = foundTold (locating (tableAfter b (lent n)) k)
-answer (writes s n v) =
+answer (plans b n) = toldOf countsTold (tableAfter b (lent n)) (planned b (lent n))
+answer (locates b n k) = toldOf foundTold [] (locating (tableAfter b (lent n)) k)
+answer (writes s v) =
     let t = tableAfter (single s) (lent 16) in
-    toldOf (map pos (take n (windowAfter (single s) t 0 window v))) (written (single s) t 0 window v)
+    toldOf (λ u. []) (map pos (windowAfter (single s) t 0 window v)) (written (single s) t 0 window v)
+
+-- a variable found, and a window afterwards
+abbrev pub foundAs : List ℕ → Told
+foundAs ns = values (map pos ns) []
+
+abbrev pub storedAs : List ℕ → Told
+storedAs bytes = values [] (map pos bytes)
+
+-- a refused write leaves the window as it was
+abbrev pub refusedBy : ℕ → Told
+refusedBy n = refusal n 0 (map pos (ascii "leftovers"))
 
 unfoldable pub cases : List (Ask × Told)
 cases =
     -- P1
     (
       plans T 48,
-      values (
+      values (pos 6 ∷ pos 8 ∷ []) (
           pos 1 ∷ pos 155 ∷ pos 128 ∷ pos 253 ∷ pos 1 ∷ pos 6 ∷ pos 8 ∷ pos 40
           ∷ pos 3 ∷ pos 189 ∷ pos 0 ∷ pos 1 ∷ pos 1 ∷ pos 2 ∷ pos 1 ∷ pos 1
           ∷ pos 2 ∷ pos 195 ∷ pos 2 ∷ pos 0 ∷ pos 3 ∷ pos 5 ∷ pos 6 ∷ pos 29
@@ -91,29 +106,29 @@ cases =
           ∷ []),
     )
     -- P2
-    ∷ (locates T 48 0, values (map pos (1 ∷ 253 ∷ 128 ∷ 1 ∷ 3 ∷ [])))
-    ∷ (locates T 48 1, values (map pos (3 ∷ 253 ∷ 131 ∷ 8 ∷ 5 ∷ [])))
-    ∷ (locates T 48 2, values (map pos (4 ∷ 253 ∷ 138 ∷ 2 ∷ 3 ∷ [])))
-    ∷ (locates T 48 3, values (map pos (3 ∷ 253 ∷ 140 ∷ 8 ∷ 5 ∷ [])))
-    ∷ (locates T 48 4, values (map pos (4 ∷ 253 ∷ 147 ∷ 2 ∷ 3 ∷ [])))
-    ∷ (locates T 48 5, values (map pos (3 ∷ 253 ∷ 149 ∷ 8 ∷ 5 ∷ [])))
-    ∷ (locates T 48 6, values (map pos (4 ∷ 253 ∷ 156 ∷ 2 ∷ 3 ∷ [])))
-    ∷ (locates T 48 7, values (map pos (5 ∷ 253 ∷ 158 ∷ 10 ∷ 4 ∷ [])))
+    ∷ (locates T 48 0, foundAs (1 ∷ 253 ∷ 128 ∷ 1 ∷ 3 ∷ []))
+    ∷ (locates T 48 1, foundAs (3 ∷ 253 ∷ 131 ∷ 8 ∷ 5 ∷ []))
+    ∷ (locates T 48 2, foundAs (4 ∷ 253 ∷ 138 ∷ 2 ∷ 3 ∷ []))
+    ∷ (locates T 48 3, foundAs (3 ∷ 253 ∷ 140 ∷ 8 ∷ 5 ∷ []))
+    ∷ (locates T 48 4, foundAs (4 ∷ 253 ∷ 147 ∷ 2 ∷ 3 ∷ []))
+    ∷ (locates T 48 5, foundAs (3 ∷ 253 ∷ 149 ∷ 8 ∷ 5 ∷ []))
+    ∷ (locates T 48 6, foundAs (4 ∷ 253 ∷ 156 ∷ 2 ∷ 3 ∷ []))
+    ∷ (locates T 48 7, foundAs (5 ∷ 253 ∷ 158 ∷ 10 ∷ 4 ∷ []))
     -- P3
-    ∷ (locates T 48 8, refusal 21 0)
+    ∷ (locates T 48 8, refusal 21 0 [])
     -- P4 to P10
-    ∷ (writes "<int size=\"2\"/>" 2 (integer (withSign false 300)), values (map pos (0x01 ∷ 0x2C ∷ [])))
-    ∷ (writes "<int><min>-5</min></int>" 1 (integer (withSign true 1)), values (map pos (0xFF ∷ [])))
-    ∷ (writes "<int/>" 1 (integer (withSign false 256)), refusal 23 0)
-    ∷ (writes "<int size=\"8\"/>" 8 (integer (withSign false (2 ^ 64 - 1))), values (map pos (replicate 8 0xFF)))
-    ∷ (plans (single "<int><min>-1</min><max>128</max></int>") 16, refusal 10 192)
-    ∷ (writes "<string size=\"4\"/>" 4 (string (ascii "AB")), values (map pos (0x41 ∷ 0x42 ∷ 0x00 ∷ 0x00 ∷ [])))
-    ∷ (writes "<string size=\"4\"/>" 4 (string (ascii "ABCD")), refusal 25 0)
+    ∷ (writes "<int size=\"2\"/>" (integer (withSign false 300)), storedAs (0x01 ∷ 0x2C ∷ ascii "ftovers"))
+    ∷ (writes "<int><min>-5</min></int>" (integer (withSign true 1)), storedAs (0xFF ∷ ascii "eftovers"))
+    ∷ (writes "<int/>" (integer (withSign false 256)), refusedBy 23)
+    ∷ (writes "<int size=\"8\"/>" (integer (withSign false (2 ^ 64 - 1))), storedAs (replicate 8 0xFF ++ ascii "s"))
+    ∷ (plans (single "<int><min>-1</min><max>128</max></int>") 16, refusal 10 192 (lent 16))
+    ∷ (writes "<string size=\"4\"/>" (string (ascii "AB")), storedAs (0x41 ∷ 0x42 ∷ 0x00 ∷ 0x00 ∷ ascii "overs"))
+    ∷ (writes "<string size=\"4\"/>" (string (ascii "ABCD")), refusedBy 25)
     -- P11, P12
-    ∷ (plans [] 0, refusal 1 0)
-    ∷ (plans (0 ∷ []) 0, refusal 3 0)
+    ∷ (plans [] 0, refusal 1 0 [])
+    ∷ (plans (0 ∷ []) 0, refusal 3 0 [])
     ∷ []
 
 pub worked : map (λ c. answer (c .0)) cases ≡ map (λ c. c .1) cases
-unfolding all-pages opened textWith T single toldOf foundTold lent window answer cases
+unfolding all-pages opened textWith T single toldOf countsTold foundTold lent window answer cases
 worked = refl
