@@ -1,4 +1,5 @@
 -- The definitions, in the order of document 01.
+pub mod Limits
 pub mod Words
 pub mod Faults
 pub mod Text

@@ -4,6 +4,7 @@ use mathlib.Core.Bool.{Bool, false, cond, not, _&&_, _||_}
 use Prim.Native.Nat.{ℕ, _+_}
 use lib.ListN.{length}
 use lib.Dec.{eqb, ltb}
+use Rattle.cdi.specs.Limits.{deepest, mostElements}
 use Rattle.cdi.specs.Words.{any, all, while, same, isEmpty}
 use Rattle.cdi.specs.Faults.{Fault, fault, unless}
 use Rattle.cdi.specs.Pieces.{Attribute, Piece, start, finish, remark, refer, text, malformed, unsupported, blank}
@@ -34,7 +35,7 @@ unfoldable pub pieceFaults : Progress → ℕ → Piece → List Fault
 pieceFaults r p (start n s e) =
     unless (not (refers s)) (fault 5 p)
     ++ (unless (not (outside r && ltb 0 (r .begun))) (fault 6 p)
-    ++ unless (ltb (length (r .names)) 24 && ltb (r .begun) 4096) (fault 7 p))
+    ++ unless (ltb (length (r .names)) deepest && ltb (r .begun) mostElements) (fault 7 p))
 pieceFaults r p (finish n) = unless (innermost (r .names) n) (fault 6 p)
 pieceFaults r p remark = []
 pieceFaults r p (refer c) = unless (not (outside r)) (fault 6 p)

@@ -6,6 +6,7 @@ use Prim.Native.Nat.{ℕ, _*_, min}
 use lib.ListN.{length, drop}
 use lib.Dec.{leb}
 use lib.IntN.{ℤ, pos}
+use Rattle.cdi.specs.Limits.{firstLineLength, textLimit, mostVariables}
 use Rattle.cdi.specs.Words.{ascii, _>>=_, given, same, among, begins}
 use Rattle.cdi.specs.Faults.{Fault, fault, least, Answer, accepted, refused, _andThen_, stage}
 use Rattle.cdi.specs.Text.{content, badCharacter, firstLine}
@@ -77,7 +78,7 @@ describe t (element p n s kids following) = record { nodes = t; root = p; segmen
 
 -- 1 "no zero byte at 65,535 or earlier": "smaller of length and 65,536"
 unfoldable pub ending : List ℕ → Answer (List ℕ)
-ending b = given (content b) (refused (fault 1 (min (length b) 65536))) accepted
+ending b = given (content b) (refused (fault 1 (min (length b) textLimit))) accepted
 
 -- 2 "byte sequence or character not allowed": "its first byte"
 unfoldable pub characters : List ℕ → Answer (List ℕ)
@@ -89,7 +90,7 @@ opening c = cond (begins firstLine c) (accepted c) (refused (fault 3 0))
 
 -- the pieces behind the first line
 unfoldable pub cut : List ℕ → List (ℕ × Piece)
-cut c = pieces 22 0 (drop 22 c)
+cut c = pieces firstLineLength 0 (drop firstLineLength c)
 
 -- 4 to 7
 unfoldable pub markup : List ℕ → Answer Nodes
@@ -109,7 +110,7 @@ addressing d = stage (leaving 0 (d .segments)) d
 
 -- 12 "more than 1,000,000 variables": "`<` of cdi"
 unfoldable pub counting : Description → Answer Description
-counting d = cond (leb (total (d .segments)) 1000000) (accepted d) (refused (fault 12 (d .root)))
+counting d = cond (leb (total (d .segments)) mostVariables) (accepted d) (refused (fault 12 (d .root)))
 
 -- stages 1 to 12, which know of no table
 unfoldable pub described : List ℕ → Answer Description

@@ -1,11 +1,12 @@
 -- "A table is a plan exactly if ..": which tables are plans, the segments that a plan describes, and locating in it.
 use mathlib.Core.List.{List, [], _∷_, map}
 use mathlib.Core.Bool.{Bool, true, false, cond, _&&_, _||_}
-use Prim.Native.Nat.{ℕ, zero, suc, _+_, _*_, _-_, _/_, _%_, _^_}
+use Prim.Native.Nat.{ℕ, zero, suc, _+_, _*_, _-_, _/_, _%_}
 use lib.ListN.{length, getD}
 use lib.Dec.{eqb, leb, ltb}
 use lib.IntN.{ℤ, pos, negℤ}
 use lib.Signed.{ltZ}
+use Rattle.cdi.specs.Limits.{firstLineLength, deepest, mostVariables, mostSpace, mostOrigin, mostReplication, mostTextSize, lowestOffset, highestOffset}
 use Rattle.cdi.specs.Words.{any}
 use Rattle.cdi.specs.Faults.{Answer, accepted, refused, fault}
 use Rattle.cdi.specs.Numbers.{within}
@@ -47,20 +48,20 @@ unfoldable pub sizeFits : ℕ → ℤ → Bool
 sizeFits k z =
     cond (eqb k 2) (oneOf (0 ∷ []) z)
     (cond (eqb k 3) (oneOf (1 ∷ 2 ∷ 4 ∷ 8 ∷ []) z)
-    (cond (eqb k 4) (within (pos 1) (pos 65535) z)
+    (cond (eqb k 4) (within (pos 1) (pos mostTextSize) z)
     (cond (eqb k 5) (oneOf (8 ∷ []) z)
     (cond (eqb k 6) (oneOf (2 ∷ 4 ∷ 8 ∷ []) z) false))))
 
 unfoldable pub offsetFits : ℤ → Bool
-offsetFits z = within (negℤ (pos (2 ^ 31))) (pos (2 ^ 31 - 1)) z
+offsetFits z = within (negℤ (pos lowestOffset)) (pos highestOffset) z
 
 -- "replication is 1 but for groups"
 unfoldable pub replicationFits : ℕ → ℤ → Bool
-replicationFits k z = cond (eqb k 2) (within (pos 1) (pos 2147483647) z) (oneOf (1 ∷ []) z)
+replicationFits k z = cond (eqb k 2) (within (pos 1) (pos mostReplication) z) (oneOf (1 ∷ []) z)
 
 -- "places rise strictly, from 22 to 65,534"
 unfoldable pub placeFits : List ℤ → ℕ → Bool
-placeFits t i = within (pos 22) (pos 65534) (field t i 1) && (eqb i 0 || ltZ (field t (i - 1) 1) (field t i 1))
+placeFits t i = within (pos firstLineLength) (pos 65534) (field t i 1) && (eqb i 0 || ltZ (field t (i - 1) 1) (field t i 1))
 
 -- "only segments and groups have subtrees, which nest": that of record i ends at e or before
 unfoldable pub nextFits : Bool → ℕ → ℕ → ℤ → Bool
@@ -80,8 +81,8 @@ unfoldable pub segmentFits : List ℤ → ℕ → ℕ → Bool
 segmentFits t i e =
     eqb (kindOf t i) 1
     && (placeFits t i
-    && (within (pos 0) (pos 2147483647) (field t i 2)
-    && (within (pos 0) (pos 255) (field t i 3)
+    && (within (pos 0) (pos mostOrigin) (field t i 2)
+    && (within (pos 0) (pos mostSpace) (field t i 3)
     && (replicationFits 1 (field t i 4)
     && nextFits true i e (field t i 5)))))
 
@@ -132,7 +133,7 @@ itemsGood t (suc k) d i e =
     let inside = itemsGood t k (d + 1) (i + 1) (nextOf t i) in
     let tells = told t i (steps i (itemOf t i (itemsFrom t k (i + 1) (nextOf t i)) noItems)) in
     let following = itemsGood t k d (nextOf t i) e in
-    let r = leb d 24 && (itemFits t i e && (inside && (tells && following))) in
+    let r = leb d deepest && (itemFits t i e && (inside && (tells && following))) in
     cond (ltb i e) r true
 
 -- "segments and only segments are at the top": the records from i to before e
@@ -149,7 +150,7 @@ segmentsGood t (suc k) i e =
 unfoldable pub isPlan : List ℤ → Bool
 isPlan t =
     let good = segmentsGood t (recordsIn t) 0 (recordsIn t) in
-    let counts = leb (total (segmentsOf t)) 1000000 in
+    let counts = leb (total (segmentsOf t)) mostVariables in
     eqb (length t % 8) 0 && (leb (recordsIn t) 4095 && (good && counts))
 
 -- ── "Locating: 20 not a plan; 21 no variable n" ──

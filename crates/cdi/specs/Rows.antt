@@ -1,9 +1,10 @@
 -- "The order and number of children stand in one fixed table of rules per element."
 use mathlib.Core.List.{List, [], _∷_, map}
 use mathlib.Core.Bool.{Bool, true, false, cond}
-use Prim.Native.Nat.{ℕ, _-_, _^_}
+use Prim.Native.Nat.{ℕ}
 use Prim.Native.String.{String}
 use lib.IntN.{ℤ, pos, negℤ}
+use Rattle.cdi.specs.Limits.{mostSpace, mostOrigin, mostReplication, mostTextSize, lowestOffset, highestOffset}
 use Rattle.cdi.specs.Words.{ascii, same}
 
 -- what an attribute's text must be
@@ -64,11 +65,11 @@ unfoldable pub row : String → List AttributeRule → List ChildRule → Row
 row n s c = record { name = ascii n; attributes = s; children = c; text = false }
 
 unfoldable pub byteRange : Form
-byteRange = range (pos 0) (pos 255)
+byteRange = range (pos 0) (pos mostSpace)
 
 -- "Offset is a 32-bit signed number, else 0."
 unfoldable pub offset : AttributeRule
-offset = optional "offset" (range (negℤ (pos (2 ^ 31))) (pos (2 ^ 31 - 1)))
+offset = optional "offset" (range (negℤ (pos lowestOffset)) (pos highestOffset))
 
 -- "An int's size is exactly the text 1, 2, 4 or 8, a float's 2, 4 or 8"
 unfoldable pub intSizes : List String
@@ -93,10 +94,10 @@ rows =
     row "cdi" rootAttributes (maybe "identification" ∷ maybe "acdi" ∷ each "segment" ∷ [])
     ∷ row "identification" [] (maybe "manufacturer" ∷ maybe "model" ∷ maybe "hardwareVersion" ∷ maybe "softwareVersion" ∷ maybe "map" ∷ [])
     ∷ row "acdi" (optional "fixed" byteRange ∷ optional "var" byteRange ∷ []) []
-    ∷ row "segment" (required "space" byteRange ∷ optional "origin" (range (pos 0) (pos 2147483647)) ∷ []) (maybe "name" ∷ maybe "description" ∷ anyData ∷ [])
-    ∷ row "group" (optional "replication" (range (pos 1) (pos 2147483647)) ∷ offset ∷ []) (maybe "name" ∷ maybe "description" ∷ maybe "repname" ∷ anyData ∷ [])
+    ∷ row "segment" (required "space" byteRange ∷ optional "origin" (range (pos 0) (pos mostOrigin)) ∷ []) (maybe "name" ∷ maybe "description" ∷ anyData ∷ [])
+    ∷ row "group" (optional "replication" (range (pos 1) (pos mostReplication)) ∷ offset ∷ []) (maybe "name" ∷ maybe "description" ∷ maybe "repname" ∷ anyData ∷ [])
     ∷ row "int" (optional "size" (size intSizes) ∷ offset ∷ []) numericChildren
-    ∷ row "string" (required "size" (range (pos 1) (pos 65535)) ∷ offset ∷ []) (maybe "name" ∷ maybe "description" ∷ maybe "map" ∷ [])
+    ∷ row "string" (required "size" (range (pos 1) (pos mostTextSize)) ∷ offset ∷ []) (maybe "name" ∷ maybe "description" ∷ maybe "map" ∷ [])
     ∷ row "eventid" (offset ∷ []) (maybe "name" ∷ maybe "description" ∷ maybe "map" ∷ [])
     ∷ row "float" (required "size" (size floatSizes) ∷ offset ∷ optional "formatting" formatting ∷ []) numericChildren
     ∷ row "map" [] (maybe "name" ∷ maybe "description" ∷ each "relation" ∷ [])

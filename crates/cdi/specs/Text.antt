@@ -5,6 +5,7 @@ use mathlib.Core.Option.{Option, none, some}
 use Prim.Native.Nat.{ℕ, zero, suc, _+_, _*_, _-_}
 use lib.ListN.{take, getD}
 use lib.Dec.{eqb, leb, ltb}
+use Rattle.cdi.specs.Limits.{textLimit}
 use Rattle.cdi.specs.Words.{ascii, _>>=_, given, begins, between}
 
 -- "the first zero byte": its place in s, which stands at `at`
@@ -14,7 +15,7 @@ zeroFrom at (b ∷ s) = let r = zeroFrom (at + 1) s in cond (eqb b 0) (some at) 
 
 -- "which must stand at place 65,535 or earlier"
 unfoldable pub endOf : List ℕ → Option ℕ
-endOf s = zeroFrom 0 (take 65536 s)
+endOf s = zeroFrom 0 (take textLimit s)
 
 -- "Content is the bytes before the first zero byte"
 unfoldable pub content : List ℕ → Option (List ℕ)
