@@ -13,7 +13,7 @@ use Rattle.cdi.specs.Faults.{Fault, fault, Answer, accepted, refused}
 use Rattle.cdi.specs.Values.{withSign}
 use Rattle.cdi.specs.Access as A
 use Rattle.cdi.specs.Access.{Window, Value, integer, event, string, settingOf, isInside, written, windowAfter, read}
-use Rattle.cdi.proofs.Quiet.{impossible}
+use Rattle.cdi.proofs.Quiet.{impossible, same-accepted, same-refused}
 use Rattle.cdi.proofs.Signs.{up, down, down-negative}
 use Rattle.access_sought.specs.Told.{knownOf, soughtOf}
 use Rattle.access_checked.specs.Told.{checkedOf}
@@ -33,12 +33,6 @@ use Rattle.access_reading.specs.declared.Reading.the-variants as reading
 module _ {A : Type 0} where
   once : {x r q : A} → r ≡ x → q ≡ x → r ≡ q
   once e f = e ∙ sym f
-
-  same-accepted : {x y : A} → accepted x ≡ accepted y → x ≡ y
-  same-accepted e = cc
-
-  same-refused : {f g : Fault} → _≡_ {A = Answer A} (refused f) (refused g) → f ≡ g
-  same-refused e = cc
 
 -- ── the check, and the setting ──
 

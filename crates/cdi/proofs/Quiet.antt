@@ -15,6 +15,15 @@ use Rattle.cdi.proofs.Tests.{both-left, both-right}
 pub impossible {ℓ} : {P : Type ℓ} → _≡_ {A = ℕ} 0 1 → P
 impossible z = absurd (omega arith)
 
+module _ {A : Type 0} where
+  -- Two answers that are the same accept with the same.
+  pub same-accepted : {x y : A} → accepted x ≡ accepted y → x ≡ y
+  same-accepted e = cc
+
+  -- Two answers that are the same refuse for the same fault.
+  pub same-refused : {f g : Fault} → _≡_ {A = Answer A} (refused f) (refused g) → f ≡ g
+  same-refused e = cc
+
 some-lesser : (f : Fault) (o : Option Fault) → lesser (some f) o ≡ none → _≡_ {A = ℕ} 0 1
 unfolding lesser
 some-lesser f none e = cc

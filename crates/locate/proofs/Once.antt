@@ -6,10 +6,11 @@ use Prim.Native.Nat.{ℕ}
 use native.Mathlib.Omega.{arith}
 use native.Mathlib.Decide.{ℕ-discrete}
 use lib.IntN.{ℤ}
-use Rattle.cdi.specs.Faults.{Answer, Fault}
+use Rattle.cdi.specs.Faults.{Fault}
 use Rattle.cdi.specs.Faults.Answer.{accepted, refused}
 use Rattle.cdi.specs.Walk.{Found}
 use Rattle.cdi.specs.Plans.{segmentsOf, isPlan, variableOf, locating}
+use Rattle.cdi.proofs.Quiet.{same-accepted, same-refused}
 use Rattle.locate.specs.Answers.{toldOf}
 use Rattle.locate_ways.specs.Finding.{standing, Finds}
 use Rattle.locate.specs.declared.Located.{Located}
@@ -22,19 +23,13 @@ once p q = p ∙ sym q
 
 -- ── the enum's cases have different answers ──
 
-same-found : (f g : Found) → _≡_ {A = Answer Found} (accepted f) (accepted g) → f ≡ g
-same-found f g e = cc
-
-same-fault : (f g : Fault) → _≡_ {A = Answer Found} (refused f) (refused g) → f ≡ g
-same-fault f g e = cc
-
 apart : (f : Found) (g : Fault) → accepted f ≡ refused g → ⊥
 apart f g e = let z : _≡_ {A = ℕ} 0 1 = cc in omega arith
 
 pub one-case : (r s : Located) → toldOf r ≡ toldOf s → r ≡ s
 unfolding toldOf
 one-case (At r s a z k) (At r′ s′ a′ z′ k′) e =
-    let f = same-found _ _ e in
+    let f = same-accepted e in
     let p = ap (λ (x : Found). x .number) f in
     let q = ap (λ (x : Found). x .space) f in
     let u = ap (λ (x : Found). x .address) f in
@@ -45,9 +40,9 @@ one-case (At r s a z k) NotAPlan e = absurd (apart _ _ e)
 one-case (At r s a z k) NoVariable e = absurd (apart _ _ e)
 one-case NotAPlan (At r s a z k) e = absurd (apart _ _ (sym e))
 one-case NotAPlan NotAPlan e = refl
-one-case NotAPlan NoVariable e = let f = ap (λ (x : Fault). x .number) (same-fault _ _ e) in absurd (omega arith)
+one-case NotAPlan NoVariable e = let f = ap (λ (x : Fault). x .number) (same-refused e) in absurd (omega arith)
 one-case NoVariable (At r s a z k) e = absurd (apart _ _ (sym e))
-one-case NoVariable NotAPlan e = let f = ap (λ (x : Fault). x .number) (same-fault _ _ e) in absurd (omega arith)
+one-case NoVariable NotAPlan e = let f = ap (λ (x : Fault). x .number) (same-refused e) in absurd (omega arith)
 one-case NoVariable NoVariable e = refl
 
 -- ── the public functions ──
@@ -73,5 +68,5 @@ find-in-once t i e a n r s p q = by (ℕ-discrete r 18446744073709551615) (ℕ-d
     by (yes x) (no y) = absurd (apart _ _ (told-is y t 0 refl refl ∙ sym same ∙ sym (told-none t 0 x)))
     by (no x) (yes y) = absurd (apart _ _ (told-is x t 0 refl refl ∙ same ∙ sym (told-none t 0 y)))
     by (no x) (no y) =
-        let f = same-found _ _ (told-is x t 0 refl refl ∙ same ∙ sym (told-is y t 0 refl refl)) in
+        let f = same-accepted (told-is x t 0 refl refl ∙ same ∙ sym (told-is y t 0 refl refl)) in
         omega (arith, ap (λ (z : Found). z .number) f, ap (λ (z : Found). z .address) f)

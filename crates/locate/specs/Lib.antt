@@ -1,3 +1,2 @@
 -- The words of the plan test's and the locator's code.
 pub mod Answers
-pub mod Worked

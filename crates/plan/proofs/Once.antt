@@ -3,19 +3,12 @@ use mathlib.Core.Path.{_≡_, sym, ap, _∙_}
 use mathlib.Core.List.{List}
 use Prim.Native.Nat.{ℕ}
 use lib.IntN.{ℤ}
-use Rattle.cdi.specs.Faults.{Fault, fault, Answer, accepted, refused}
+use Rattle.cdi.specs.Faults.{Fault, fault}
 use Rattle.cdi.specs.Planning.{Counts, planned, tableAfter}
-use Rattle.cdi.proofs.Quiet.{impossible}
+use Rattle.cdi.proofs.Quiet.{impossible, same-accepted, same-refused}
 use Rattle.plan_stages.specs.declared.Planned.{Planned}
 use Rattle.plan_stages.specs.declared.Planned.the-variants.{Accepted, Refused}
 use Rattle.plan_stages.specs.Outlines.{answerOf}
-
-module _ {A : Type 0} where
-  same-accepted : {x y : A} → accepted x ≡ accepted y → x ≡ y
-  same-accepted e = cc
-
-  same-refused : {f g : Fault} → _≡_ {A = Answer A} (refused f) (refused g) → f ≡ g
-  same-refused e = cc
 
 refused-alike : {n p m q : ℕ} → fault n p ≡ fault m q → Refused n p ≡ Refused m q
 refused-alike e = ap (λ (f : Fault). Refused (f .number) (f .place)) e

@@ -5,15 +5,11 @@ use mathlib.Core.List.{List}
 use Prim.Native.Nat.{ℕ, _*_}
 use lib.IntN.{ℤ}
 use lib.ListN.{take}
-use Rattle.cdi.specs.Faults.{Fault, fault, Answer, accepted}
-use Rattle.cdi.proofs.Quiet.{impossible}
+use Rattle.cdi.specs.Faults.{Fault, fault, Answer}
+use Rattle.cdi.proofs.Quiet.{impossible, same-accepted}
 use Rattle.plan_stages.specs.declared.Planned.{Planned}
 use Rattle.plan_stages.specs.declared.Planned.the-variants.{Accepted, Refused}
 use Rattle.plan_stages.specs.Outlines.{Outline, saidOf}
-
-module _ {A : Type 0} where
-  same-accepted : {x y : A} → accepted x ≡ accepted y → x ≡ y
-  same-accepted e = cc
 
 said-alike : (r q : Planned) (t u : List ℤ) → saidOf r t ≡ saidOf q u → r ≡ q
 unfolding saidOf

@@ -20,7 +20,7 @@ use Rattle.cdi.specs.Table.{tableOf, sameTable}
 use Rattle.cdi.specs.Plans.{placeOf, isPlan, segmentsOf, variableOf, locating}
 use Rattle.cdi.specs.Planning.{Description, described}
 use Rattle.cdi.specs.Access.{Window, Value, string, Setting, contentAt, exact, settingIn, settingOf, isInside, isFloat, firstCause, writeCauses, written, Reading, ownBytes, textIn, valueIn, readCauses, readFrom, read}
-use Rattle.cdi.proofs.Quiet.{impossible, through}
+use Rattle.cdi.proofs.Quiet.{impossible, same-refused, through}
 use Rattle.cdi.proofs.Signs.{number-same}
 use Rattle.cdi.proofs.PlanOf.{same-table}
 use Rattle.cdi.proofs.Back.{Passed, passed}
@@ -95,11 +95,8 @@ module _ (b : List ℕ) (t : List ℤ) (n : ℕ) where
         rw (no-variable e h l, q, s)
     access-refused (why.variable e o) = rw e o
 
-    same-fault : {x : Fault} → _≡_ {A = Answer A} (refused x) (refused (fault m p)) → fault m p ≡ x
-    same-fault e = cc
-
     number-is : (x y : ℕ) → _≡_ {A = Answer A} (refused (fault x y)) (refused (fault m p)) → (m ≡ x) × (p ≡ y)
-    number-is x y e = let z = same-fault e in (ap (λ (g : Fault). g .number) z, ap (λ (g : Fault). g .place) z)
+    number-is x y e = let z = sym (same-refused e) in (ap (λ (g : Fault). g .number) z, ap (λ (g : Fault). g .place) z)
 
     pub access-cause : (settingOf b t n andThen f) ≡ refused (fault m p) → AccessCause b t n Own m p
     access-cause h = by (settingOf b t n) refl h
