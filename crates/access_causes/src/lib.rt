@@ -1,8 +1,5 @@
 // The causes that the text decides, and why a value can't be written.
 
-use access_kinds::EVENTID;
-use access_kinds::FLOAT;
-use access_kinds::INT;
 use access_kinds::Setting;
 use access_kinds::is_good_text;
 use access_kinds::kind_of;
@@ -11,6 +8,9 @@ use maps::Wanted;
 use settings_admission::has_map;
 use settings_admission::is_admitted;
 use settings_bounds::is_in_bounds;
+use terms::EVENTID;
+use terms::FLOAT;
+use terms::INT;
 ghost use mathlib.Core.Path.{_≡_};
 ghost use mathlib.Core.Bool.{_||_};
 ghost use Rattle.cdi.specs.Access.{isFloat, isMappedEvent};

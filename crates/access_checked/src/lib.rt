@@ -6,7 +6,11 @@ use plan_opening::Opened;
 use plan_opening::open_text;
 use plan_outline::outline;
 use plan_stages::Planned;
-use plan_table::FIELDS;
+use plan_table::FEW;
+use plan_table::MANY;
+use plan_table::MORE;
+use terms::FIELDS;
+use terms::TEXT_LIMIT;
 ghost use mathlib.Core.Path.{_≡_};
 ghost use mathlib.Core.Bool.{_&&_};
 ghost use Prim.Native.Nat.{_*_, _≤_};
@@ -22,16 +26,6 @@ pub enum Checked {
     Exact(usize),
     Refused { number: usize, place: usize },
 }
-
-// So many records have room; a description has at most 4,096.
-const FEW: usize = 128;
-
-const MORE: usize = 1024;
-
-const MANY: usize = 4096;
-
-// No content is as long as this.
-const BEYOND: usize = 65536;
 
 // Is the table that of so many records, all of which these rows have?
 fn is_planned(table: &[i64], rows: &[i64], records: usize) -> bool
@@ -109,7 +103,7 @@ fn compare(content: &[u8], table: &[i64]) -> Checked
     requires { ⌜ (22 ≤ length (now content)) × (length (now content) ≤ 65535) ⌝ }
     ensures { λ r. ⌜ checkedOf r ≡ comparedOf (now (content .entry)) (now (table .entry)) ⌝ }
 {
-    let again = content.len() / BEYOND;
+    let again = content.len() / TEXT_LIMIT;
     if table.len() <= FIELDS * FEW {
         return compare_few(content, table);
     }

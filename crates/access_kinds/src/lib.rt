@@ -3,6 +3,10 @@
 use access_order::first_cause;
 use children::Part;
 use maps::Wanted;
+use terms::EVENTID;
+use terms::FLOAT;
+use terms::INT;
+use terms::STRING;
 use text::is_utf8;
 use values::Zero;
 use values::first_zero;
@@ -13,15 +17,6 @@ ghost use Rattle.cdi.specs.Access.{kindOfValue, isGoodText};
 ghost use Rattle.maps.specs.Matches.{wantedOf};
 ghost use Rattle.access_kinds.specs.Told.{noText, settingIs, insideBy, readCause};
 ghost use lib.ListN.{length};
-
-// Kinds of variables.
-pub const INT: u64 = 3;
-
-pub const STRING: u64 = 4;
-
-pub const EVENTID: u64 = 5;
-
-pub const FLOAT: u64 = 6;
 
 // A variable as its table and its text describe it: the number of its record, its space, address, size and kind, and its own content.
 pub struct Setting {

@@ -20,8 +20,9 @@ use Rattle.cdi.specs.Access.{Window, Value, integer, string, firstCause, readCa
 use Rattle.cdi.proofs.Quiet.{impossible}
 use Rattle.cdi.proofs.Stages.{first-zero}
 use Rattle.cdi.proofs.Back.{Lies, lies, event-size}
-use Rattle.values.specs.Held.{wholeOf, Plain, zeroAt}
-use Rattle.values.specs.declared.Whole.{Whole}
+use Rattle.terms.specs.Wholes.{wholeOf, Plain}
+use Rattle.values.specs.Held.{zeroAt}
+use Rattle.terms.specs.declared.Whole.{Whole}
 use Rattle.values.specs.declared.Zero.{Zero}
 use Rattle.values.specs.declared.Zero.the-variants as zero
 use Rattle.maps.specs.Matches.{wantedOf}

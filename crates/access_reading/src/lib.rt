@@ -1,13 +1,13 @@
 // One setting's value out of a window.
 
 use access_causes::write_cause;
-use access_kinds::INT;
-use access_kinds::STRING;
 use access_kinds::Setting;
 use access_kinds::is_inside;
 use access_kinds::read_cause;
 use maps::Wanted;
 use settings_bounds::is_signed;
+use terms::INT;
+use terms::STRING;
 use text::is_utf8;
 use values::Zero;
 use values::first_zero;

@@ -6,6 +6,7 @@ use locate::find;
 use locate_rows::PLACE;
 use locate_rows::rise_at;
 use settings::content_at;
+use terms::FIRST_LINE;
 ghost use mathlib.Core.Path.{_≡_};
 ghost use lib.ListN.{take};
 ghost use Rattle.cdi.specs.Faults.{accepted};
@@ -19,8 +20,6 @@ pub enum Sought {
 }
 
 // The length of the first line.
-const OPENING: usize = 22;
-
 // Variable `n` of a text and a table that have been checked.
 pub fn seek(text: &[u8], end: usize, table: &[i64], n: u64) -> Sought
     requires { ⌜ knownOf (now text) (now table) ≡ accepted end ⌝ }
@@ -39,7 +38,7 @@ pub fn seek(text: &[u8], end: usize, table: &[i64], n: u64) -> Sought
             kind,
         } => {
             let place = rise_at(table, record, PLACE);
-            let part = content_at(&text[0..end], OPENING, place as usize);
+            let part = content_at(&text[0..end], FIRST_LINE, place as usize);
             Sought::Is(Setting {
                 number: record,
                 space,

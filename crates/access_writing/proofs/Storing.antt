@@ -17,7 +17,7 @@ use Rattle.cdi.proofs.Tests.{ends}
 use Rattle.cdi.proofs.Bytes.{length-bytes, eight-bits, halves}
 use Rattle.cdi.proofs.Signs.{up, down, up-negative, down-negative, le-up}
 use Rattle.cdi.proofs.Back.{Passed, passed, Lies, lies, good-text, storable-between}
-use Rattle.values.specs.Held.{wholeOf}
+use Rattle.terms.specs.Wholes.{wholeOf}
 use Rattle.maps.specs.Matches.{wantedOf}
 use Rattle.maps.specs.declared.Wanted.{Wanted}
 use Rattle.maps.specs.declared.Wanted.the-variants.{Number, Event, Text}

@@ -4,7 +4,7 @@ use access_causes::write_cause;
 use access_kinds::Setting;
 use access_kinds::is_inside;
 use maps::Wanted;
-use values::Whole;
+use terms::Whole;
 use values::put_number;
 use values::put_text;
 use values::put_whole;

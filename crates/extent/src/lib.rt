@@ -3,17 +3,13 @@
 // An extent knows no address: it counts heights above the lowest address that its stretch reaches, the one it starts at included. So the
 // same extent serves every start, and only `rise` and `fall` touch a sign.
 
+use terms::LAST_ADDRESS;
+use terms::MOST_VARIABLES;
 ghost use mathlib.Core.Path.{_≡_};
 ghost use Prim.Native.Nat.{_≤_, _<_, _+_, _-_, _*_, _^_, max};
 ghost use lib.IntN.{negℤ};
 ghost use Rattle.cdi.specs.Rules.{natural};
 ghost use Rattle.extent.specs.Reach.{Small, nowhere, byOffset, bySize, join, repeat, fitsAt, held};
-
-// "the address must lie from 0 to 2^32"
-pub const LAST_ADDRESS: u64 = 0x1_0000_0000;
-
-// "Variables are numbered from 0 as met, at most 1,000,000"
-pub const MOST_VARIABLES: u64 = 1000000;
 
 // The variables met, and the heights of the first, the last and the highest address. A count above 1,000,000 is 1,000,001. A stretch that
 // spans more than 2^32 fits no start: its span is 2^32 + 1, and all else 0.

@@ -5,6 +5,7 @@ use extent::Extent;
 use gauges_state::GROUP;
 use gauges_state::NEVER;
 use tags_numbers::Given;
+use terms::MOST_VARIABLES;
 ghost use mathlib.Core.Path.{_≡_};
 ghost use mathlib.Core.Bool.{cond};
 ghost use Prim.Native.Nat.{_^_, _≤_, _<_, min};
@@ -61,8 +62,8 @@ pub fn copies_of(element: usize, copies: u64) -> u64
 pub fn capped(total: u64) -> u64
     ensures { λ r. ⌜ (r ≡ min total 1000001) × (r ≤ 1000001) ⌝ }
 {
-    if extent::MOST_VARIABLES < total {
-        return extent::MOST_VARIABLES + 1;
+    if MOST_VARIABLES < total {
+        return MOST_VARIABLES + 1;
     }
     total
 }

@@ -1,15 +1,13 @@
 // The record of an element: eight numbers at the index that was kept for it. Rows that have no room for it are left as they are.
 
 use extent::Extent;
+use terms::FIELDS;
 ghost use mathlib.Core.Path.{_≡_};
 ghost use Prim.Native.Nat.{_+_, _*_, _%_, _^_, _≤_, _<_};
 ghost use lib.ListN.{length};
 ghost use lib.Seq.{sets};
 ghost use Rattle.extent.specs.Reach.{Small};
 ghost use Rattle.gauges_records.specs.Fields.{fieldsOf};
-
-// The numbers in a record.
-const FIELDS: usize = 8;
 
 // Writes the eight numbers of a record from this place on.
 fn put(

@@ -18,7 +18,8 @@ use Rattle.keys.specs.Keys.{faultIn}
 use Rattle.numbers.specs.Held.{sizeOf, nearest, lowOf, highOf}
 use Rattle.numbers.specs.declared.Signed.{Signed}
 use Rattle.numbers.proofs.Ranges.{both-below, both-above, second-below, first-below, wholly-above}
-use Rattle.rules_judge.specs.Judging.{blamed, fromWhole, boundBlame}
+use Rattle.terms.specs.Wholes.{wholeOf}
+use Rattle.rules_judge.specs.Judging.{blamed, boundBlame}
 use Rattle.rules_judge.proofs.Blaming.{blamed-in-turn}
 use Rattle.rules_bounds.proofs.Storing.{low-signed, high-signed, low-plain, high-plain}
 use Rattle.judges_state.specs.declared.Judge.{Judge}
@@ -226,7 +227,7 @@ bounds-are p n i =
     tested-meant p n (i .low) (i .high) (i .«has_low») (i .«has_high») _ _ _ (none (i .«has_low») _)
     ∙ ap (λ (t : Bool). meant p n (i .low) (i .high) (i .«has_low») (i .«has_high») (withSign (i .«low_negative») (i .smallest)) (withSign (i .«high_negative») (i .largest)) (i .«has_low» && t))
     (sym (sign-of (i .«low_negative») (i .smallest)))
-    ∙ (unfold meant boundBlame judgeOf fromWhole withSign in refl)
+    ∙ (unfold meant boundBlame judgeOf wholeOf withSign in refl)
   where
     none : (t u : Bool) → t ≡ false → (t && u) ≡ false
     none t u e = rw e

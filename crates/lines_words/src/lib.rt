@@ -1,5 +1,8 @@
 // The words of programs' lines in a lent slice: bytes, decimal numbers, kinds.
 
+use terms::EVENTID;
+use terms::INT;
+use terms::STRING;
 ghost use mathlib.Core.Path.{_≡_};
 ghost use mathlib.Core.List.{_++_};
 ghost use Prim.Native.Nat.{_+_, _≤_};
@@ -47,13 +50,13 @@ pub fn put_kind(out: &mut [u8], at: usize, kind: u64) -> usize
     ensures put { λ r. ⌜ take r (now (out .exit)) ≡ take at (now (out .entry)) ++ kindWord kind ⌝ }
     ensures ends { λ r. ⌜ r ≤ at + 8 ⌝ }
 {
-    if kind == 3 {
+    if kind == INT {
         return put_all(out, at, b" int");
     }
-    if kind == 4 {
+    if kind == STRING {
         return put_all(out, at, b" string");
     }
-    if kind == 5 {
+    if kind == EVENTID {
         return put_all(out, at, b" eventid");
     }
     put_all(out, at, b" float")

@@ -10,15 +10,14 @@ use lines::put_refusal;
 use list_lines::lines_from;
 use plan::plan;
 use plan_stages::Planned;
-use plan_table::FIELDS;
+use terms::FIELDS;
+use terms::MOST_VARIABLES;
+use terms::TEXT_LIMIT;
 ghost use mathlib.Core.Path.{_≡_};
 ghost use mathlib.Core.Bool.{true};
 ghost use Prim.Native.Nat.{_*_, _/_, _≤_};
 ghost use lib.ListN.{length};
 ghost use Rattle.cdi.specs.Plans.{isPlan};
-
-// "at most 1,000,000"
-const MOST_VARIABLES: u64 = 1000000;
 
 // Writes the lines of all variables of a plan.
 fn write_lines(table: &[i64], numbers: &mut [u64], out: &mut [u8]) -> bool
@@ -89,7 +88,7 @@ fn run(text: &mut [u8], table: &mut [i64], numbers: &mut [u64], out: &mut [u8])
 }
 
 fn main() {
-    let mut text = [0u8; 65536];
+    let mut text = [0u8; TEXT_LIMIT];
     let mut table = [0i64; 8192];
     let mut numbers = [0u64; 5120];
     let mut out = [0u8; 94208];

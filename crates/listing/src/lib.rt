@@ -1,12 +1,10 @@
 // The variables of a plan, many at a time, for a program that lists them all: a batch walks down to its first variable once and then
 // goes on from one to the next, copy after copy, so that skipped records are paid for once a batch.
 
-use locate_ranges::GROUP;
 use locate_rows::CHANGE;
 use locate_rows::COUNT;
 use locate_rows::EXTRA;
 use locate_rows::KIND;
-use locate_rows::NUMBERS;
 use locate_rows::REPLICATION;
 use locate_rows::START;
 use locate_rows::rise_at;
@@ -14,6 +12,8 @@ use locate_ways::choose;
 use locate_ways::each;
 use locate_ways::moved_by;
 use locate_ways::next_record;
+use terms::FIELDS;
+use terms::GROUP;
 ghost use mathlib.Core.Path.{_≡_};
 ghost use mathlib.Core.Bool.{true};
 ghost use Prim.Native.Nat.{_≤_, _<_, _+_, _-_, _*_, _/_};
@@ -149,7 +149,7 @@ pub fn list(table: &[i64], n: u64, out: &mut [u64]) -> usize
     ensures { λ r. ⌜ r ≡ length (batch (walk (segmentsOf (now (table .entry)))) n (now (out .entry))) ⌝ }
     ensures { λ r. ⌜ now (out .exit) ≡ listed (walk (segmentsOf (now (table .entry)))) n (now (out .entry)) ⌝ }
 {
-    let records = table.len() / NUMBERS;
+    let records = table.len() / FIELDS;
     let room = out.len() / EACH;
     let mut i = 0;
     let mut left = n;

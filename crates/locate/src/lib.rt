@@ -4,13 +4,13 @@ use locate_plan::is_plan;
 use locate_rows::COUNT;
 use locate_rows::EXTRA;
 use locate_rows::KIND;
-use locate_rows::NUMBERS;
 use locate_rows::START;
 use locate_rows::rise_at;
 use locate_ways::NOWHERE;
 use locate_ways::RECORDS;
 use locate_ways::find_in;
 use locate_ways::next_record;
+use terms::FIELDS;
 ghost use mathlib.Core.Path.{_≡_};
 ghost use mathlib.Core.Bool.{true};
 ghost use Prim.Native.Nat.{_≤_, _+_, _*_, _%_};
@@ -59,7 +59,7 @@ pub fn find(table: &[i64], n: u64) -> Located
     ensures is { λ r. ⌜ toldOf r ≡ variableOf (segmentsOf (now (table .entry))) n ⌝ }
     ensures held { λ r. ⌜ Held (now (table .entry)) r ⌝ }
 {
-    let records = table.len() / NUMBERS;
+    let records = table.len() / FIELDS;
     let mut i = 0;
     let mut left = n;
     while i < records {

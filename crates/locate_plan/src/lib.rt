@@ -1,15 +1,12 @@
 // Whether a table is a plan: one pass over its records, which sums up each subtree as an extent instead of copying its groups out.
 
 use extent::Extent;
-use extent::LAST_ADDRESS;
-use extent::MOST_VARIABLES;
 use extent::fits;
 use extent::joined;
 use extent::moved;
 use extent::nothing;
 use extent::repeated;
 use extent::stood;
-use locate_ranges::GROUP;
 use locate_ranges::equals;
 use locate_ranges::item_fits;
 use locate_ranges::segment_fits;
@@ -18,12 +15,15 @@ use locate_rows::COUNT;
 use locate_rows::EXTRA;
 use locate_rows::KIND;
 use locate_rows::NEXT;
-use locate_rows::NUMBERS;
 use locate_rows::REPLICATION;
 use locate_rows::START;
 use locate_rows::fall_at;
 use locate_rows::field;
 use locate_rows::rise_at;
+use terms::FIELDS;
+use terms::GROUP;
+use terms::LAST_ADDRESS;
+use terms::MOST_VARIABLES;
 ghost use mathlib.Core.Path.{_≡_};
 ghost use mathlib.Core.Bool.{true};
 ghost use Prim.Native.Nat.{_≤_, _+_, _*_, _<_};
@@ -41,10 +41,10 @@ pub fn is_plan(table: &[i64]) -> bool
     ensures { λ r. ⌜ r ≡ isPlan (now (table .entry)) ⌝ }
 {
     let numbers = table.len();
-    if numbers % NUMBERS != 0 {
+    if numbers % FIELDS != 0 {
         return false;
     }
-    let records = numbers / NUMBERS;
+    let records = numbers / FIELDS;
     if MOST_RECORDS < records {
         return false;
     }
@@ -54,7 +54,7 @@ pub fn is_plan(table: &[i64]) -> bool
 // "nesting is at most depth 24 with the segment at 2": where the members of a segment stand, and the deepest record.
 const MEMBERS: u64 = 3;
 
-const DEEPEST: u64 = 24;
+const DEEPEST: u64 = terms::DEEPEST as u64;
 
 // Records that pass, with the extent of their walk, or records that make the table no plan.
 pub enum Tested {

@@ -9,6 +9,17 @@ use locate_rows::START;
 use locate_rows::fall_at;
 use locate_rows::field;
 use locate_rows::rise_at;
+use terms::EVENTID;
+use terms::FIRST_LINE;
+use terms::FLOAT;
+use terms::GROUP;
+use terms::INT;
+use terms::MOST_DOWN;
+use terms::MOST_SIGNED;
+use terms::MOST_SPACE;
+use terms::MOST_TEXT;
+use terms::SEGMENT;
+use terms::STRING;
 ghost use mathlib.Core.Path.{_≡_};
 ghost use mathlib.Core.List.{[], _∷_};
 ghost use Prim.Native.Nat.{_≤_, _<_, _+_, _-_, _*_};
@@ -21,37 +32,10 @@ ghost use Rattle.cdi.specs.Rules.{natural};
 ghost use Rattle.cdi.specs.Table.{sameNumber};
 ghost use Rattle.cdi.specs.Plans.{field, oneOf, sizeFits, offsetFits, replicationFits, placeFits, nextFits, itemFits, segmentFits};
 
-// Kinds.
-pub const SEGMENT: u64 = 1;
-
-pub const GROUP: u64 = 2;
-
-pub const INT: u64 = 3;
-
-pub const STRING: u64 = 4;
-
-pub const EVENTID: u64 = 5;
-
-pub const FLOAT: u64 = 6;
-
 // "places rise strictly, from 22 to 65,534"
-const FIRST_PLACE: u64 = 22;
+const FIRST_PLACE: u64 = FIRST_LINE as u64;
 
 const LAST_PLACE: u64 = 65534;
-
-// "segment space 0 to 255", "origin 0 to 2,147,483,647", "replication 1 to 2,147,483,647", "string size 1 to 65,535"
-const MOST_SPACE: u64 = 255;
-
-const MOST_ORIGIN: u64 = 2147483647;
-
-const MOST_REPLICATION: u64 = 2147483647;
-
-const MOST_TEXT: u64 = 65535;
-
-// "Offset is a 32-bit signed number": how far it goes up, and down.
-const MOST_UP: u64 = 2147483647;
-
-const MOST_DOWN: u64 = 2147483648;
 
 // Whether number `which` of record `i` lies from `least` to `most`.
 fn lies(table: &[i64], i: usize, which: usize, least: u64, most: u64) -> bool
@@ -138,7 +122,7 @@ fn offset_fits(table: &[i64], i: usize) -> bool
 {
     let up = rise_at(table, i, START);
     let down = fall_at(table, i, START);
-    if MOST_UP < up {
+    if MOST_SIGNED < up {
         return false;
     }
     down <= MOST_DOWN
@@ -151,7 +135,7 @@ fn replication_fits(table: &[i64], i: usize) -> bool
 {
     let kind = rise_at(table, i, KIND);
     if kind == GROUP {
-        return lies(table, i, REPLICATION, 1, MOST_REPLICATION);
+        return lies(table, i, REPLICATION, 1, MOST_SIGNED);
     }
     equals(table, i, REPLICATION, 1)
 }
@@ -225,7 +209,7 @@ pub fn segment_fits(table: &[i64], i: usize, end: usize) -> bool
     if !place_fits(table, i) {
         return false;
     }
-    if !lies(table, i, START, 0, MOST_ORIGIN) {
+    if !lies(table, i, START, 0, MOST_SIGNED) {
         return false;
     }
     if !lies(table, i, EXTRA, 0, MOST_SPACE) {

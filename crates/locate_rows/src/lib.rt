@@ -2,6 +2,7 @@
 
 use extent::fall;
 use extent::rise;
+use terms::FIELDS;
 ghost use mathlib.Core.Path.{_≡_};
 ghost use Prim.Native.Nat.{_≤_, _<_, _+_, _*_, _^_};
 ghost use lib.ListN.{length};
@@ -27,14 +28,12 @@ pub const COUNT: usize = 6;
 
 pub const CHANGE: usize = 7;
 
-pub const NUMBERS: usize = 8;
-
 // Number `which` of record `i`, both counted from 0: the one place that knows where a table keeps it.
 pub fn field(table: &[i64], i: usize, which: usize) -> i64
     requires { ⌜ (i * 8 + 8 ≤ length (now table)) × (which < 8) ⌝ }
     ensures { λ r. ⌜ r ≡ field (now (table .entry)) i which ⌝ }
 {
-    table[i * NUMBERS + which]
+    table[i * FIELDS + which]
 }
 
 // What that number adds where it isn't negative, else 0.

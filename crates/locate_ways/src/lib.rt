@@ -2,7 +2,6 @@
 
 use extent::fall;
 use extent::rise;
-use locate_ranges::GROUP;
 use locate_rows::CHANGE;
 use locate_rows::COUNT;
 use locate_rows::KIND;
@@ -12,6 +11,7 @@ use locate_rows::START;
 use locate_rows::field;
 use locate_rows::natural_at;
 use locate_rows::rise_at;
+use terms::GROUP;
 ghost use mathlib.Core.Path.{_≡_};
 ghost use Prim.Native.Nat.{_≤_, _<_, _+_, _-_, _*_, _/_, _^_};
 ghost use lib.ListN.{length};

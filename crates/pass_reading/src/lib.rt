@@ -22,6 +22,7 @@ use pass_steps::is_over;
 use pass_steps::is_stray;
 use pass_steps::stray_number;
 use tags::start_tag;
+use terms::DEEPEST;
 ghost use mathlib.Core.Path.{_≡_};
 ghost use Prim.Native.Nat.{_+_, _%_, _≤_, _<_};
 ghost use lib.ListN.{length, drop};
@@ -174,7 +175,7 @@ fn content(s: &[u8], at: usize, left: usize, begun: usize, st: State, rows: &mut
                 i = run.end;
             } else {
                 if sort == 1 {
-                    if left == 24 {
+                    if left == DEEPEST {
                         let stray = end_tag(s, i);
                         return Reached {
                             number: stray_number(stray.end),
@@ -234,5 +235,5 @@ pub fn read(s: &[u8], from: usize, rows: &mut [i64]) -> Reached
     ensures { λ r. ⌜ ContentReads (now (s .entry)) 24 from 0 atFirst (now (rows .entry)) (now (rows .exit)) r ⌝ }
 {
     let st = start();
-    content(s, from, 24, 0, st, rows)
+    content(s, from, DEEPEST, 0, st, rows)
 }

@@ -1,5 +1,7 @@
 // What a start tag must keep, and what may stand outside the root: no state is needed. Definitions speak of what a piece asks for by the two enums.
 
+use terms::DEEPEST;
+use terms::MOST_ELEMENTS;
 ghost use mathlib.Core.Path.{_≡_};
 ghost use mathlib.Core.Bool.{cond, not, _&&_};
 ghost use lib.Dec.{eqb, ltb};
@@ -35,10 +37,10 @@ pub fn begin(refers: bool, left: usize, begun: usize) -> usize
     if begun == 0 {
         return 0;
     }
-    if left == 24 {
+    if left == DEEPEST {
         return 6;
     }
-    if begun < 4096 {
+    if begun < MOST_ELEMENTS {
         return 0;
     }
     7
@@ -48,14 +50,14 @@ pub fn begin(refers: bool, left: usize, begun: usize) -> usize
 pub fn is_stray(left: usize, solid: usize, end: usize) -> bool
     ensures { λ r. ⌜ r ≡ (eqb left 24 && ltb solid end) ⌝ }
 {
-    (left == 24) & (solid < end)
+    (left == DEEPEST) & (solid < end)
 }
 
 // Does a reference stand outside the root?
 pub fn is_outside(left: usize, refers: bool) -> bool
     ensures { λ r. ⌜ r ≡ (eqb left 24 && refers) ⌝ }
 {
-    (left == 24) & refers
+    (left == DEEPEST) & refers
 }
 
 // The number of the refusal of an end tag outside the root, which is malformed where its end is 0.
@@ -72,5 +74,5 @@ pub fn stray_number(end: usize) -> usize
 pub fn is_over(left: usize, begun: usize) -> bool
     ensures { λ r. ⌜ r ≡ (eqb left 24 && not (eqb begun 0)) ⌝ }
 {
-    (left == 24) & (begun != 0)
+    (left == DEEPEST) & (begun != 0)
 }

@@ -6,28 +6,22 @@ use plan_opening::Opened;
 use plan_opening::open_text;
 use plan_outline::outline;
 use plan_stages::Planned;
-use plan_table::FIELDS;
+use plan_table::FEW;
+use plan_table::MANY;
+use plan_table::MORE;
 use plan_table::put;
+use terms::FIELDS;
+use terms::TEXT_LIMIT;
 ghost use mathlib.Core.Path.{_≡_};
 ghost use Prim.Native.Nat.{_≤_};
 ghost use lib.ListN.{length};
 ghost use Rattle.cdi.specs.Planning.{planned, tableAfter};
 ghost use Rattle.plan_stages.specs.Outlines.{answerOf, ofMarkup, plannedBy, afterBy};
 
-// So many records have room; a description has at most 4,096.
-const FEW: usize = 128;
-
-const MORE: usize = 1024;
-
-const MANY: usize = 4096;
-
 // Content up to these lengths seldom has more records.
 const SHORT: usize = 4096;
 
 const LONGER: usize = 32768;
-
-// No content is as long as this.
-const BEYOND: usize = 65536;
 
 // Stages 4 to 13 of content that begins with the first line, with rows for 4,096 records. `again` is 0 at each call: a function that calls itself isn't
 // compiled into its callers, so that their frames don't hold its rows.
@@ -94,7 +88,7 @@ fn plan_content(content: &[u8], table: &mut [i64]) -> Planned
     ensures answer { λ r. ⌜ r ≡ plannedBy (ofMarkup (now (content .entry))) (length (now (table .entry))) ⌝ }
     ensures after { λ _. ⌜ now (table .exit) ≡ afterBy (ofMarkup (now (content .entry))) (now (table .entry)) ⌝ }
 {
-    let again = content.len() / BEYOND;
+    let again = content.len() / TEXT_LIMIT;
     if content.len() <= SHORT {
         return plan_few(content, table, again);
     }

@@ -3,6 +3,7 @@
 use pass_reading::read;
 use plan_stages::Planned;
 use plan_stages::settled;
+use terms::FIRST_LINE;
 ghost use mathlib.Core.Path.{_≡_};
 ghost use Prim.Native.Nat.{_%_, _≤_};
 ghost use lib.ListN.{length};
@@ -10,8 +11,6 @@ ghost use Rattle.cdi.specs.Faults.{_andThen_};
 ghost use Rattle.plan_stages.specs.Outlines.{ofMarkup, inRoom, saidOf, Few};
 
 // The length of the first line.
-const OPENING: usize = 22;
-
 // What content that begins with the first line describes, with as many of its rows at the front of these as have room. Of refused content the rows
 // say nothing.
 pub fn outline(content: &[u8], rows: &mut [i64]) -> Planned
@@ -19,7 +18,7 @@ pub fn outline(content: &[u8], rows: &mut [i64]) -> Planned
     ensures said { λ r. ⌜ saidOf r (now (rows .exit)) ≡ (ofMarkup (now (content .entry)) andThen inRoom (length (now (rows .entry)))) ⌝ }
     ensures few { λ r. ⌜ Few r × (length (now (rows .exit)) ≡ length (now (rows .entry))) ⌝ }
 {
-    let reached = read(content, OPENING, rows);
+    let reached = read(content, FIRST_LINE, rows);
     if reached.number != 0 {
         return Planned::Refused {
             number: reached.number,

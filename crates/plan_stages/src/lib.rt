@@ -2,6 +2,7 @@
 
 use gauges_state::NEVER;
 use keys::NOTHING;
+use terms::MOST_VARIABLES;
 ghost use mathlib.Core.Path.{_≡_};
 ghost use Rattle.judges_state.specs.Decoded.{leastIn};
 ghost use Rattle.gauges_state.specs.Flat.{leavesOf};
@@ -12,8 +13,6 @@ pub enum Planned {
     Accepted { records: usize, variables: u64 },
     Refused { number: usize, place: usize },
 }
-
-const MOST_VARIABLES: u64 = 1000000;
 
 // Stage 12: the count of variables.
 fn counted(records: usize, variables: u64, root: usize) -> Planned

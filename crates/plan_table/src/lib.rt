@@ -1,6 +1,8 @@
 // Stage 13: the records go to the front of the lent table, where they fit.
 
 use plan_stages::Planned;
+use terms::FIELDS;
+use terms::MOST_ELEMENTS;
 ghost use mathlib.Core.Path.{_≡_};
 ghost use mathlib.Core.Bool.{cond};
 ghost use Prim.Native.Nat.{_*_, _≤_};
@@ -9,8 +11,12 @@ ghost use lib.ListN.{length, take};
 ghost use Rattle.cdi.specs.Planning.{placed};
 ghost use Rattle.plan_stages.specs.Outlines.{putOf};
 
-// The numbers of one record.
-pub const FIELDS: usize = 8;
+// Rows have room for so many records: as few as most texts have, more, or as many as a description can have.
+pub const FEW: usize = 128;
+
+pub const MORE: usize = 1024;
+
+pub const MANY: usize = MOST_ELEMENTS;
 
 // Puts these numbers at the front of the table.
 fn copy(rows: &[i64], table: &mut [i64])

@@ -21,7 +21,9 @@ use Rattle.rules_judge.specs.declared.Bound.{Bound}
 use Rattle.rules_judge.specs.declared.Said.{Said}
 use Rattle.rules_judge.specs.declared.Said.the-variants.{Silent}
 use Rattle.names.specs.Names.{elementNumber}
-use Rattle.rules_judge.specs.Judging.{rowAt, asWhole, fromWhole, isValue, valueSaid, absent, fresh, boundBlame, intBlame, bounding, judgeNodes, judging-page}
+use Rattle.cdi.specs.Values.{withSign}
+use Rattle.terms.specs.Wholes.{wholeOf}
+use Rattle.rules_judge.specs.Judging.{rowAt, asWhole, isValue, valueSaid, absent, fresh, boundBlame, intBlame, bounding, judgeNodes, judging-page}
 use Rattle.rules.proofs.Ordered.{like-nothing}
 use Rattle.rules.proofs.Heard.{heard, heard-means}
 use Rattle.rules.proofs.Kept.{int, boundFrom, After, after}
@@ -66,8 +68,8 @@ bound-found r w b (element p n s kids following) h = by (same w n) refl (bound-f
         rw (same-comm n w, m) (first-bound w p kids following (ownNumber kids) refl (both-right (isEmpty s) _ (both-right (isEmpty (childFaults r b p n)) _ child)))
     by false m others = rw (same-comm n w, m) (others (both-right true _ (rw m at h)))
 
-whole-back : (z : ℤ) → fromWhole (asWhole z) ≡ z
-unfolding fromWhole asWhole
+whole-back : (z : ℤ) → wholeOf (asWhole z) ≡ z
+unfolding wholeOf withSign asWhole
 whole-back (pos n) = rw (leb·suc-zero n)
 whole-back (negsuc n) = refl
 

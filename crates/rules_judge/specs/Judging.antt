@@ -3,7 +3,7 @@ use mathlib.Core.List.{List, [], _∷_, _++_, map}
 use mathlib.Core.Bool.{Bool, true, false, cond, not, _&&_, _||_}
 use mathlib.Core.Option.{Option, none, some}
 use Prim.Native.Nat.{ℕ, _-_, max}
-use lib.IntN.{ℤ, pos, negℤ, natAbs}
+use lib.IntN.{ℤ, pos, natAbs}
 use lib.ListN.{getD}
 use lib.Dec.{eqb, leb, ltb}
 use lib.Signed.{leZ, ltZ}
@@ -15,11 +15,13 @@ use Rattle.cdi.specs.Tree.{Nodes, end, element, other}
 use Rattle.cdi.specs.Numbers.{number, bounded}
 use Rattle.cdi.specs.Rows.{Row, rowOf, documentRow, intSizes}
 use Rattle.cdi.specs.Rules.{offTable, noNumber, outOfRange, attributeFaults, entryOf, strayFaults, numberNames, storable, largest, sizeText, sizeOf, isInt}
+use Rattle.cdi.specs.Values.{withSign}
 use Rattle.names.specs.Names.{elementNames, numberAmong, elementNumber}
+use Rattle.terms.specs.declared.Whole.{Whole}
+use Rattle.terms.specs.Wholes.{wholeOf}
 use Rattle.rules_judge.specs.declared.Fault.{Fault}
 use Rattle.rules_judge.specs.declared.Least.{Least}
 use Rattle.rules_judge.specs.declared.Least.the-variants.{Nothing, Is}
-use Rattle.rules_judge.specs.declared.Whole.{Whole}
 use Rattle.rules_judge.specs.declared.Said.{Said}
 use Rattle.rules_judge.specs.declared.Said.the-variants.{Silent, No, Large, Value}
 use Rattle.rules_judge.specs.declared.Bound.{Bound}
@@ -53,9 +55,6 @@ isForeign j = eqb (j .row) 24
 
 unfoldable pub asWhole : ℤ → Whole
 asWhole z = record { negative = ltZ z (pos 0); magnitude = natAbs z }
-
-unfoldable pub fromWhole : Whole → ℤ
-fromWhole w = cond (w .negative) (negℤ (pos (w .magnitude))) (pos (w .magnitude))
 
 -- what a text says
 unfoldable pub saidBy : Option ℤ → Said
@@ -148,9 +147,9 @@ numberBlame j p n i = cond (j .numeric && among n numberNames) (saidFaults p (i 
 -- the bounds of an int of size n, by what its min and max have said
 unfoldable pub boundBlame : ℕ → ℕ → Bound → Bound → List F.Fault
 boundBlame p n low high =
-    let signed = low .there && ltZ (fromWhole (low .value)) (pos 0) in
-    let min = cond (low .there) (fromWhole (low .value)) (pos 0) in
-    let max = cond (high .there) (fromWhole (high .value)) (largest signed n) in
+    let signed = low .there && ltZ (wholeOf (low .value)) (pos 0) in
+    let min = cond (low .there) (wholeOf (low .value)) (pos 0) in
+    let max = cond (high .there) (wholeOf (high .value)) (largest signed n) in
     let lowGood = storable signed n min in
     let highGood = storable signed n max in
     unless lowGood (outOfRange (cond (low .there) (low .place) p))
@@ -210,5 +209,5 @@ judgeNodes j (other p c following) = judgeNodes (otherOf j p c) following
 judgeNodes j (element p n s kids following) = judgeNodes (leaveOf j p n s (judgeNodes (enterOf j p n s) kids)) following
 
 unfoldable pub judging-page : Unit {0}
-unfolding asFault toLeast blamed elementNames numberAmong elementNumber rowAt isForeign asWhole fromWhole saidBy saidFaults isValue valueSaid spoken isNumberRow absent fresh entryFaults enterOf otherOf missing numberBlame boundBlame intBlame bounding boundSound passed leaveOf judgeNodes
+unfolding asFault toLeast blamed elementNames numberAmong elementNumber rowAt isForeign asWhole wholeOf withSign saidBy saidFaults isValue valueSaid spoken isNumberRow absent fresh entryFaults enterOf otherOf missing numberBlame boundBlame intBlame bounding boundSound passed leaveOf judgeNodes
 judging-page = tt

@@ -1,5 +1,7 @@
 // No code: what is known of an element while its content is read, as types, with the definitions and laws of the table of elements.
 
+use terms::Whole;
+
 // A fault's number and place.
 pub struct Fault {
     pub number: u64,
@@ -10,12 +12,6 @@ pub struct Fault {
 pub enum Least {
     Nothing,
     Is(Fault),
-}
-
-// A whole number; zero is not negative.
-pub struct Whole {
-    pub negative: bool,
-    pub magnitude: u64,
 }
 
 // What an element's content has said as a number: nothing yet, no number, one out of -2^63 to 2^64 - 1, or its value.

@@ -6,6 +6,10 @@ use numbers::Signed;
 use numbers::is_formatting;
 use numbers::read_number;
 use scan::same;
+use terms::MOST_DOWN;
+use terms::MOST_SIGNED;
+use terms::MOST_SPACE;
+use terms::MOST_TEXT;
 ghost use mathlib.Core.Path.{_≡_};
 ghost use mathlib.Core.Bool.{true, false, cond};
 ghost use Prim.Native.Nat.{_≤_, _<_};
@@ -50,12 +54,12 @@ fn highest(a: u8) -> u64
     ensures bounds { λ r. ⌜ r ≤ 2147483647 ⌝ }
 {
     if a < 6 {
-        return 255;
+        return MOST_SPACE;
     }
     if a == SIZE {
-        return 65535;
+        return MOST_TEXT;
     }
-    0x7FFF_FFFF
+    MOST_SIGNED
 }
 
 // Does the number lie in the attribute's range?
@@ -66,7 +70,7 @@ fn is_in_range(n: Signed, a: u8) -> bool
         return false;
     }
     if n.negative {
-        return (a == OFFSET) & (n.magnitude <= 0x8000_0000);
+        return (a == OFFSET) & (n.magnitude <= MOST_DOWN);
     }
     (amount_for(a) <= n.magnitude) & (n.magnitude <= highest(a))
 }

@@ -1,5 +1,6 @@
 // The text and its end: where the content ends, whether it is all characters that are allowed, and whether it begins with the first line.
 
+use terms::TEXT_LIMIT;
 use text_characters::Character;
 use text_characters::character_at;
 use text_characters::is_between;
@@ -17,7 +18,7 @@ ghost use Rattle.text_runs.specs.Runs.{plain, nonzero, AllOf};
 ghost use Rattle.text_characters.specs.Answers.{widthIn};
 
 // The zero that ends the content stands before this place.
-const LIMIT: usize = 65536;
+const LIMIT: usize = TEXT_LIMIT;
 
 // The place of the zero, or that of refusal 1.
 pub enum End {

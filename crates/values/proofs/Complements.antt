@@ -12,8 +12,8 @@ use lib.IntN.{pos, negℤ}
 use Rattle.cdi.specs.Values.{withSign, bytesOf, complement, uncomplement}
 use Rattle.cdi.proofs.Quiet.{impossible}
 use Rattle.cdi.proofs.Bytes.{halves}
-use Rattle.values.specs.declared.Whole.{Whole}
-use Rattle.values.specs.Held.{wholeOf, Plain}
+use Rattle.terms.specs.declared.Whole.{Whole}
+use Rattle.terms.specs.Wholes.{wholeOf, Plain}
 use Rattle.values.proofs.Numbering.{room-for-one}
 
 -- ── the largest number of so many bytes ──

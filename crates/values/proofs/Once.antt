@@ -9,10 +9,11 @@ use lib.ListN.{length}
 use Rattle.cdi.specs.Text.{zeroFrom}
 use Rattle.cdi.specs.Values.{withSign, bytesOf, valueOf, complement, uncomplement, padded}
 use Rattle.cdi.proofs.Quiet.{impossible}
-use Rattle.values.specs.declared.Whole.{Whole}
+use Rattle.terms.specs.declared.Whole.{Whole}
+use Rattle.terms.specs.Wholes.{wholeOf, Plain}
 use Rattle.values.specs.declared.Zero.{Zero}
 use Rattle.values.specs.declared.Zero.the-variants.{At, Missing}
-use Rattle.values.specs.Held.{wholeOf, Plain, zeroAt}
+use Rattle.values.specs.Held.{zeroAt}
 
 module _ {A : Type 0} {x r q : A} where
   once : r ≡ x → q ≡ x → r ≡ q

@@ -1,18 +1,14 @@
 // Values in bytes: numbers big-endian over the whole of a part, signed ones in two's complement, text with zeros behind it.
 
 use scan::byte_at;
+use terms::Whole;
 ghost use mathlib.Core.Path.{_≡_};
 ghost use Prim.Native.Nat.{_+_, _*_, _^_, _≤_, _<_};
 ghost use lib.ListN.{length};
 ghost use Rattle.cdi.specs.Text.{zeroFrom};
 ghost use Rattle.cdi.specs.Values.{bytesOf, valueOf as numberOf, complement, uncomplement, padded};
-ghost use Rattle.values.specs.Held.{wholeOf, Plain, zeroAt};
-
-// A whole number: its sign and its magnitude. What is read here never says that zero is negative.
-pub struct Whole {
-    pub negative: bool,
-    pub magnitude: u64,
-}
+ghost use Rattle.terms.specs.Wholes.{wholeOf, Plain};
+ghost use Rattle.values.specs.Held.{zeroAt};
 
 // The first zero byte.
 pub enum Zero {
