@@ -58,15 +58,15 @@ pub fn put_lines(out: &mut [u8], first: u64, numbers: &[u64], count: usize) -> u
 }
 
 // The line of a refusal.
-pub fn put_refusal(out: &mut [u8], number: u64, place: u64) -> usize
+pub fn put_refusal(out: &mut [u8], number: usize, place: usize) -> usize
     requires { ⌜ 64 ≤ length (now out) ⌝ }
     ensures put { λ r. ⌜ take r (now (out .exit)) ≡ refusalLine number place ⌝ }
     ensures ends { λ r. ⌜ r ≤ 64 ⌝ }
 {
     let mut to = put_all(out, 0, b"refused ");
-    to = put_number(out, to, number);
+    to = put_number(out, to, number as u64);
     to = put_all(out, to, b" at ");
-    to = put_number(out, to, place);
+    to = put_number(out, to, place as u64);
     put_all(out, to, b"\n")
 }
 

@@ -41,7 +41,7 @@ fn write_lines(table: &[i64], numbers: &mut [u64], out: &mut [u8]) -> bool
 fn write_refusal(number: usize, place: usize, out: &mut [u8]) -> bool
     requires { ⌜ 64 ≤ length (now out) ⌝ }
 {
-    let size = put_refusal(out, number as u64, place as u64);
+    let size = put_refusal(out, number, place);
     io::write_all(1, &out[0..size])
 }
 

@@ -4,7 +4,7 @@ use terms::Whole;
 
 // A fault's number and place.
 pub struct Fault {
-    pub number: u64,
+    pub number: usize,
     pub place: usize,
 }
 
