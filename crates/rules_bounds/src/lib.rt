@@ -37,6 +37,7 @@ fn half(size: u8) -> u64
 // The numbers that the size can store, signed or not.
 pub fn range_of(signed: bool, size: u8) -> Range
     requires { ⌜ (1 ≤ size) × (size ≤ 8) ⌝ }
+    ensures sign { λ r. ⌜ r .negative ≡ signed ⌝ }
     ensures low { λ r. ⌜ lowOf r ≡ smallest signed size ⌝ }
     ensures high { λ r. ⌜ highOf r ≡ largest signed size ⌝ }
 {
