@@ -44,9 +44,11 @@ checked-alike (checked.Refused n p) (checked.Exact f) z = impossible (cc)
 checked-alike (checked.Refused n p) (checked.Refused m o) z = ap (λ (f : Fault). checked.Refused (f .number) (f .place)) (same-refused z)
 
 module _ (b : List ℕ) (t : List ℤ) where
+  -- of access_checked::check
   pub check-once : (r q : Checked) → checkedOf r ≡ knownOf b t → checkedOf q ≡ knownOf b t → r ≡ q
   check-once r q e f = checked-alike r q (once e f)
 
+  -- of access_sought::seek
   pub seek-once : (n : ℕ) (c : List ℕ) (r q : Sought) → soughtOf c r ≡ settingOf b t n → soughtOf c q ≡ settingOf b t n → soughtOf c r ≡ soughtOf c q
   seek-once n c r q e f = once e f
 
@@ -66,6 +68,7 @@ cause-alike r q e = by (eqb r 0) refl (eqb q 0) refl e
     by false x false y z = ap (λ (f : Fault). f .number) (same-refused z)
 
 -- there is a window in which the variable lies, or doesn't, as is said
+-- of access_causes::write_cause
 pub write-cause-once : (s : A.Setting) (i : Bool) (v : Value) (w : Window) → i ≡ isInside w (s .variable) → (r q : ℕ) → Decides s i v r → Decides s i v q → r ≡ q
 write-cause-once s i v w e r q x y = cause-alike r q (once (x .of w e) (y .of w e))
 
@@ -79,13 +82,16 @@ written-alike (written.Refused n p) written.Accepted z = impossible (cc)
 written-alike (written.Refused n p) (written.Refused m o) z = ap (λ (f : Fault). written.Refused (f .number) (f .place)) (same-refused z)
 
 -- of a setting that is known
+-- of access_writing::store
 pub store-once : (a : Answer (Unit {0})) (r q : Written) → writtenOf r ≡ a → writtenOf q ≡ a → r ≡ q
 store-once a r q e f = written-alike r q (once e f)
 
 module _ (b : List ℕ) (t : List ℤ) (n : ℕ) (w : Window) (v : Value) where
+  -- of access::write_integer, access::write_event, access::write_text, access::write_known
   pub write-once : (r q : Written) → writtenOf r ≡ written b t n w v → writtenOf q ≡ written b t n w v → r ≡ q
   write-once r q e f = written-alike r q (once e f)
 
+  -- of access::write_integer, access::write_event, access::write_text, access::write_known
   pub window-once : (u o : List ℕ) → u ≡ windowAfter b t n w v → o ≡ windowAfter b t n w v → u ≡ o
   window-once u o e f = once e f
 
@@ -157,10 +163,12 @@ module _ (at : ℕ) (bytes : List ℕ) where
   reading-alike (reading.Refused n p) (reading.Refused m o) x y z = ap (λ (f : Fault). reading.Refused (f .number) (f .place)) (same-refused z)
 
 -- of a setting that is known
+-- of access_reading::fetch
 pub fetch-once : (at : ℕ) (bytes : List ℕ) (a : Answer A.Reading) (r q : Reading) → readingOf bytes r ≡ a → readingOf bytes q ≡ a → ReadAt at bytes r → ReadAt at bytes q → r ≡ q
 fetch-once at bytes a r q e f x y = reading-alike at bytes r q x y (once e f)
 
 module _ (b : List ℕ) (t : List ℤ) (n space first : ℕ) (bytes : List ℕ) where
+  -- of access::read, access::read_known
   pub read-once : (r q : Reading) → readingOf bytes r ≡ read b t n (windowOf space first bytes) → readingOf bytes q ≡ read b t n (windowOf space first bytes)
       → ReadAt (startFor b t n first) bytes r → ReadAt (startFor b t n first) bytes q → r ≡ q
   read-once r q e f x y = reading-alike (startFor b t n first) bytes r q x y (once e f)

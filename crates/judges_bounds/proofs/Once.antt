@@ -6,6 +6,6 @@ use Rattle.judges_state.specs.declared.Judge.{Judge}
 use Rattle.judges_state.specs.Decoded.{leastIn, judgeOf}
 use Rattle.judges_state.specs.Steps.{sizeAt}
 
-pub bound-once : (l p n : ℕ) (i : Judge) (q r : ℕ) → leastIn q ≡ blamed (leastIn l) (boundBlame p (sizeAt n) (judgeOf i .low) (judgeOf i .high))
+pub bound-blame-once : (l p n : ℕ) (i : Judge) (q r : ℕ) → leastIn q ≡ blamed (leastIn l) (boundBlame p (sizeAt n) (judgeOf i .low) (judgeOf i .high))
     → leastIn r ≡ blamed (leastIn l) (boundBlame p (sizeAt n) (judgeOf i .low) (judgeOf i .high)) → leastIn q ≡ leastIn r
-bound-once l p n i q r e f = e ∙ sym f
+bound-blame-once l p n i q r e f = e ∙ sym f

@@ -15,8 +15,8 @@ pub told-once : (v : List ℕ) (a m b n : ℕ) → saidOf a m ≡ saidBy (number
 told-once v a m b n e f = e ∙ sym f
 
 module _ (j q r : Judge) (at : ℕ) where
-  pub run-once : (s : List ℕ) (end : ℕ) → judgeOf q ≡ otherOf (judgeOf j) at (text (part s at end)) → judgeOf r ≡ otherOf (judgeOf j) at (text (part s at end)) → judgeOf q ≡ judgeOf r
-  run-once s end e f = e ∙ sym f
+  pub with-run-once : (s : List ℕ) (end : ℕ) → judgeOf q ≡ otherOf (judgeOf j) at (text (part s at end)) → judgeOf r ≡ otherOf (judgeOf j) at (text (part s at end)) → judgeOf q ≡ judgeOf r
+  with-run-once s end e f = e ∙ sym f
 
-  pub rare-once : (refers : Bool) → judgeOf q ≡ otherOf (judgeOf j) at (rareOf refers) → judgeOf r ≡ otherOf (judgeOf j) at (rareOf refers) → judgeOf q ≡ judgeOf r
-  rare-once refers e f = e ∙ sym f
+  pub with-rare-once : (refers : Bool) → judgeOf q ≡ otherOf (judgeOf j) at (rareOf refers) → judgeOf r ≡ otherOf (judgeOf j) at (rareOf refers) → judgeOf q ≡ judgeOf r
+  with-rare-once refers e f = e ∙ sym f

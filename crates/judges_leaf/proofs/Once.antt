@@ -16,9 +16,9 @@ module _ (numeric : Bool) (child : ℕ) where
       → saidOf b n ≡ cond (numeric && isNumeric child) (saidBy (number v)) Silent → saidOf a m ≡ saidOf b n
   leaf-said-once v a m b n e f = e ∙ sym f
 
-  pub leaf-good-once : (said : ℕ) {q r : Bool} → q ≡ (not (numeric && isNumeric child) || isValue (saidOf said 0)) → r ≡ (not (numeric && isNumeric child) || isValue (saidOf said 0)) → q ≡ r
-  leaf-good-once said e f = e ∙ sym f
+  pub is-leaf-good-once : (said : ℕ) {q r : Bool} → q ≡ (not (numeric && isNumeric child) || isValue (saidOf said 0)) → r ≡ (not (numeric && isNumeric child) || isValue (saidOf said 0)) → q ≡ r
+  is-leaf-good-once said e f = e ∙ sym f
 
-pub leaf-once : (j : Judge) (at child entry said m : ℕ) (q r : Judge) → judgeOf q ≡ leafBy (judgeOf j) at child entry (saidOf said m)
+pub with-leaf-once : (j : Judge) (at child entry said m : ℕ) (q r : Judge) → judgeOf q ≡ leafBy (judgeOf j) at child entry (saidOf said m)
     → judgeOf r ≡ leafBy (judgeOf j) at child entry (saidOf said m) → judgeOf q ≡ judgeOf r
-leaf-once j at child entry said m q r e f = e ∙ sym f
+with-leaf-once j at child entry said m q r e f = e ∙ sym f

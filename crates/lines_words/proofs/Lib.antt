@@ -1,2 +1,3 @@
 pub mod Spelled
 pub mod Putting
+pub mod Once

@@ -56,6 +56,7 @@ find-once t n r s p q = one-case r s (once p q)
 pub locate-once : (t : List ℤ) (n : ℕ) (r s : Located) → toldOf r ≡ locating t n → toldOf s ≡ locating t n → r ≡ s
 locate-once t n r s p q = one-case r s (once p q)
 
+-- of locate_ways::find_in
 pub find-in-once : (t : List ℤ) (i e a n r s : ℕ) → Finds t i e a n r → Finds t i e a n s → r ≡ s
 unfolding toldOf
 find-in-once t i e a n r s p q = by (ℕ-discrete r 18446744073709551615) (ℕ-discrete s 18446744073709551615)

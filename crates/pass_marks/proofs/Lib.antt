@@ -1,1 +1,2 @@
 pub mod Rarely
+pub mod Once

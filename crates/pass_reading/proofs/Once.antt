@@ -52,14 +52,18 @@ module _ (s : List ℕ) (at : ℕ) (t : List ℤ) (q r : Reached) (u v : List �
   refused-too : (q .number ≡ 0 → ⊥) → r .number ≡ 0 → ⊥
   refused-too y z = let e : none ≡ some (fault (q .number) (q .place)) = sym (no-fault b z) ∙ one-fault a y in impossible (cc)
 
+  -- of pass_reading::read
   pub number-once : q .number ≡ r .number
   number-once = ⊎-elim (λ y. y ∙ sym (read-too y)) (λ y. ap (λ (f : Fault). f .number) (both-refused y (refused-too y))) (eq-or-ne (q .number) 0)
 
+  -- of pass_reading::read
   pub place-once : q .place ≡ r .place
   place-once = ⊎-elim (λ y. to-the-end a y ∙ sym (to-the-end b (read-too y))) (λ y. ap (λ (f : Fault). f .place) (both-refused y (refused-too y))) (eq-or-ne (q .number) 0)
 
+  -- of pass_reading::read
   pub state-once : q .number ≡ 0 → stateOf (q .state) ≡ stateOf (r .state)
   state-once y = ap (λ (f : Folded). f .state) (sym (all-read a y) ∙ all-read b (read-too y))
 
+  -- of pass_reading::read
   pub rows-once : q .number ≡ 0 → u ≡ v
   rows-once y = ap (λ (f : Folded). f .table) (sym (all-read a y) ∙ all-read b (read-too y))

@@ -1,3 +1,4 @@
 pub mod Attributing
 pub mod Showing
 pub mod Walking
+pub mod Once

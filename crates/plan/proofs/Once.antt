@@ -24,5 +24,6 @@ module _ (b : List ℕ) where
   pub plan-once : (t : List ℤ) (r q : Planned) → answerOf r ≡ planned b t → answerOf q ≡ planned b t → r ≡ q
   plan-once t r q e f = answer-alike r q (e ∙ sym f)
 
+  -- of plan::plan
   pub table-once : (t u v : List ℤ) → u ≡ tableAfter b t → v ≡ tableAfter b t → u ≡ v
   table-once t u v e f = e ∙ sym f

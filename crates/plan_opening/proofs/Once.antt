@@ -17,5 +17,5 @@ opened-alike b (Refused n p) (Ends e) z x y = impossible (cc)
 opened-alike b (Refused n p) (Refused m o) z x y = let w : fault n p ≡ fault m o = cc in ap (λ (f : Fault). Refused (f .number) (f .place)) w
 
 -- two answers of `open_text`
-pub open-once : (b : List ℕ) (a : Answer (List ℕ)) (r q : Opened) → openedOf b r ≡ a → openedOf b q ≡ a → Ended b r → Ended b q → r ≡ q
-open-once b a r q e f = opened-alike b r q (e ∙ sym f)
+pub open-text-once : (b : List ℕ) (a : Answer (List ℕ)) (r q : Opened) → openedOf b r ≡ a → openedOf b q ≡ a → Ended b r → Ended b q → r ≡ q
+open-text-once b a r q e f = opened-alike b r q (e ∙ sym f)

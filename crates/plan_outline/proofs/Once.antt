@@ -23,6 +23,7 @@ module _ (o : Answer Outline) where
   pub outline-once : (r q : Planned) (t u : List ℤ) → saidOf r t ≡ o → saidOf q u ≡ o → r ≡ q
   outline-once r q t u e f = said-alike r q t u (e ∙ sym f)
 
+  -- of plan_outline::outline
   pub rows-once : (n v : ℕ) (t u : List ℤ) → saidOf (Accepted n v) t ≡ o → saidOf (Accepted n v) u ≡ o → take (8 * n) t ≡ take (8 * n) u
   unfolding saidOf
   rows-once n v t u e f = ap (λ (i : Outline). i .rows) (same-accepted (e ∙ sym f))

@@ -2,3 +2,4 @@ pub mod Along
 pub mod Tests
 pub mod Words
 pub mod Spans
+pub mod Once

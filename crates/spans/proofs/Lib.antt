@@ -1,2 +1,3 @@
 pub mod Valued
 pub mod Standing
+pub mod Once

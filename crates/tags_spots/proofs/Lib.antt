@@ -1,1 +1,2 @@
 pub mod Spotting
+pub mod Once
