@@ -19,7 +19,6 @@ pub enum Sought {
     Nothing(usize),
 }
 
-// The length of the first line.
 // Variable `n` of a text and a table that have been checked.
 pub fn seek(text: &[u8], end: usize, table: &[i64], n: u64) -> Sought
     requires { ⌜ knownOf (now text) (now table) ≡ accepted end ⌝ }

@@ -10,7 +10,6 @@ ghost use lib.ListN.{length};
 ghost use Rattle.cdi.specs.Faults.{_andThen_};
 ghost use Rattle.plan_stages.specs.Outlines.{ofMarkup, inRoom, saidOf, Few};
 
-// The length of the first line.
 // What content that begins with the first line describes, with as many of its rows at the front of these as have room. Of refused content the rows
 // say nothing.
 pub fn outline(content: &[u8], rows: &mut [i64]) -> Planned
