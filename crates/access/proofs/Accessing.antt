@@ -9,7 +9,7 @@ use Rattle.cdi.specs.Faults.{Fault, fault, Answer, accepted, refused, _andThen_
 use Rattle.cdi.specs.Planning.{Description, described}
 use Rattle.cdi.specs.Access.{Window, Value, exact, settingIn, settingOf, firstCause, writeCauses, written, writeInto, windowAfter, readFrom, read}
 use Rattle.cdi.proofs.Quiet.{impossible}
-use Rattle.access_sought.specs.Told.{endIn, knownOf, soughtOf, Fits}
+use Rattle.access_lookup.specs.Told.{endIn, knownOf, lookupOf, Fits}
 use Rattle.access_checked.specs.Told.{checkedOf}
 use Rattle.access_kinds.specs.Told.{settingIs, Good, windowOf}
 use Rattle.access_writing.specs.Told.{writtenOf}
@@ -18,13 +18,13 @@ use Rattle.access.specs.Told.{startFor}
 use Rattle.access_checked.specs.declared.Checked.{Checked}
 use Rattle.access_checked.specs.declared.Checked.the-variants as checked
 use Rattle.access_kinds.specs.declared.Setting.{Setting}
-use Rattle.access_sought.specs.declared.Sought.{Sought}
-use Rattle.access_sought.specs.declared.Sought.the-variants.{Is, Nothing}
+use Rattle.access_lookup.specs.declared.Lookup.{Lookup}
+use Rattle.access_lookup.specs.declared.Lookup.the-variants.{Is, Nothing}
 use Rattle.access_writing.specs.declared.Written.{Written}
 use Rattle.access_writing.specs.declared.Written.the-variants as written
 use Rattle.access_reading.specs.declared.Reading.{Reading}
 use Rattle.access_reading.specs.declared.Reading.the-variants as reading
-use Rattle.access_sought.proofs.Seeking.{lent, known-end}
+use Rattle.access_lookup.proofs.Seeking.{lent, known-end}
 use Rattle.access_reading.proofs.Fetching.{refused-anywhere}
 
 -- ── a setting that is refused ──
@@ -77,12 +77,12 @@ pub ruleset checking-first = (checked-exact, check-unwritten, check-unchanged, c
 
 -- ── the setting ──
 
-module _ (b : List ℕ) (t : List ℤ) (n : ℕ) (e : ℕ) {a : Sought} (s : soughtOf (take e b) a ≡ settingOf b t n) where
+module _ (b : List ℕ) (t : List ℤ) (n : ℕ) (e : ℕ) {a : Lookup} (s : lookupOf (take e b) a ≡ settingOf b t n) where
   -- there is none
   module _ {m : ℕ} (q : a ≡ Nothing m) where
     is-none : settingOf b t n ≡ refused (fault m 0)
-    unfolding soughtOf
-    is-none = sym s ∙ ap (soughtOf (take e b)) q
+    unfolding lookupOf
+    is-none = sym s ∙ ap (lookupOf (take e b)) q
 
     pub none-written : (w : Window) (v : Value) → writtenOf (written.Refused m 0) ≡ written b t n w v
     unfolding writtenOf
@@ -98,8 +98,8 @@ module _ (b : List ℕ) (t : List ℤ) (n : ℕ) (e : ℕ) {a : Sought} (s : sou
   -- there is one
   module _ {x : Setting} (q : a ≡ Is x) where
     is-setting : settingOf b t n ≡ accepted (settingIs (take e b) x)
-    unfolding soughtOf
-    is-setting = sym s ∙ ap (soughtOf (take e b)) q
+    unfolding lookupOf
+    is-setting = sym s ∙ ap (lookupOf (take e b)) q
 
     pub setting-good : Fits (take e b) a → Good (take (e - 0) (drop 0 b)) x
     unfolding Fits

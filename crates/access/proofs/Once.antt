@@ -15,7 +15,7 @@ use Rattle.cdi.specs.Access as A
 use Rattle.cdi.specs.Access.{Window, Value, integer, event, string, settingOf, isInside, written, windowAfter, read}
 use Rattle.cdi.proofs.Quiet.{impossible, same-accepted, same-refused}
 use Rattle.cdi.proofs.Signs.{up, down, down-negative}
-use Rattle.access_sought.specs.Told.{knownOf, soughtOf}
+use Rattle.access_lookup.specs.Told.{knownOf, lookupOf}
 use Rattle.access_checked.specs.Told.{checkedOf}
 use Rattle.access_kinds.specs.Told.{windowOf, Decides}
 use Rattle.access_order.specs.Told.{causeOf}
@@ -24,7 +24,7 @@ use Rattle.access_reading.specs.Told.{readingOf, ReadAt}
 use Rattle.access.specs.Told.{startFor}
 use Rattle.access_checked.specs.declared.Checked.{Checked}
 use Rattle.access_checked.specs.declared.Checked.the-variants as checked
-use Rattle.access_sought.specs.declared.Sought.{Sought}
+use Rattle.access_lookup.specs.declared.Lookup.{Lookup}
 use Rattle.access_writing.specs.declared.Written.{Written}
 use Rattle.access_writing.specs.declared.Written.the-variants as written
 use Rattle.access_reading.specs.declared.Reading.{Reading}
@@ -48,8 +48,8 @@ module _ (b : List ℕ) (t : List ℤ) where
   pub check-once : (r q : Checked) → checkedOf r ≡ knownOf b t → checkedOf q ≡ knownOf b t → r ≡ q
   check-once r q e f = checked-alike r q (once e f)
 
-  -- of access_sought::seek
-  pub seek-once : (n : ℕ) (c : List ℕ) (r q : Sought) → soughtOf c r ≡ settingOf b t n → soughtOf c q ≡ settingOf b t n → soughtOf c r ≡ soughtOf c q
+  -- of access_lookup::seek
+  pub seek-once : (n : ℕ) (c : List ℕ) (r q : Lookup) → lookupOf c r ≡ settingOf b t n → lookupOf c q ≡ settingOf b t n → lookupOf c r ≡ lookupOf c q
   seek-once n c r q e f = once e f
 
 -- ── the causes ──

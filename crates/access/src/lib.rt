@@ -3,10 +3,10 @@
 
 use access_checked::Checked;
 use access_checked::check;
+use access_lookup::Lookup;
+use access_lookup::seek;
 use access_reading::Reading;
 use access_reading::fetch;
-use access_sought::Sought;
-use access_sought::seek;
 use access_writing::Written;
 use access_writing::store;
 use maps::Wanted;
@@ -15,7 +15,7 @@ ghost use Rattle.cdi.specs.Faults.{accepted};
 ghost use Rattle.cdi.specs.Access.{written, windowAfter, read};
 ghost use Rattle.maps.specs.Matches.{wantedOf};
 ghost use Rattle.maps.specs.declared.Wanted.the-variants.{Number, Event, Text};
-ghost use Rattle.access_sought.specs.Told.{knownOf};
+ghost use Rattle.access_lookup.specs.Told.{knownOf};
 ghost use Rattle.access_kinds.specs.Told.{windowOf, noText};
 ghost use Rattle.access_writing.specs.Told.{writtenOf};
 ghost use Rattle.access_reading.specs.Told.{readingOf, ReadAt};
@@ -39,10 +39,10 @@ pub fn write_known(
     ensures answer { λ r. ⌜ writtenOf r ≡ written (now (text .entry)) (now (table .entry)) n (windowOf space first (now (window .entry))) (wantedOf value (now (string .entry))) ⌝ }
     ensures after { λ _. ⌜ now (window .exit) ≡ windowAfter (now (text .entry)) (now (table .entry)) n (windowOf space first (now (window .entry))) (wantedOf value (now (string .entry))) ⌝ }
 {
-    let sought = seek(text, end, table, n);
-    match sought {
-        Sought::Nothing(number) => Written::Refused { number, place: 0 },
-        Sought::Is(setting) => store(&text[0..end], setting, space, first, window, value, string),
+    let lookup = seek(text, end, table, n);
+    match lookup {
+        Lookup::Nothing(number) => Written::Refused { number, place: 0 },
+        Lookup::Is(setting) => store(&text[0..end], setting, space, first, window, value, string),
     }
 }
 
@@ -60,10 +60,10 @@ pub fn read_known(
     ensures is { λ r. ⌜ readingOf (now (window .entry)) r ≡ read (now (text .entry)) (now (table .entry)) n (windowOf space first (now (window .entry))) ⌝ }
     ensures at { λ r. ⌜ ReadAt (startFor (now (text .entry)) (now (table .entry)) n first) (now (window .entry)) r ⌝ }
 {
-    let sought = seek(text, end, table, n);
-    match sought {
-        Sought::Nothing(number) => Reading::Refused { number, place: 0 },
-        Sought::Is(setting) => fetch(&text[0..end], setting, space, first, window),
+    let lookup = seek(text, end, table, n);
+    match lookup {
+        Lookup::Nothing(number) => Reading::Refused { number, place: 0 },
+        Lookup::Is(setting) => fetch(&text[0..end], setting, space, first, window),
     }
 }
 

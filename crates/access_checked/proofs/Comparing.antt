@@ -25,7 +25,7 @@ use Rattle.plan_stages.specs.declared.Planned.{Planned}
 use Rattle.plan_stages.specs.declared.Planned.the-variants as planned
 use Rattle.plan_stages.specs.Outlines.{Outline, outlined, ofMarkup, inRoom, saidOf, Few}
 use Rattle.plan_table.proofs.Placing.{not-described, is-counted, few-told}
-use Rattle.access_sought.specs.Told.{endIn, knownOf}
+use Rattle.access_lookup.specs.Told.{endIn, knownOf}
 use Rattle.access_checked.specs.Told.{checkedOf, sameRows, comparedOf, comparedBy}
 use Rattle.access_checked.specs.declared.Checked.{Checked}
 use Rattle.access_checked.specs.declared.Checked.the-variants.{Exact, Refused}

@@ -18,7 +18,7 @@ ghost use lib.Dec.{leb};
 ghost use lib.ListN.{length, take};
 ghost use Rattle.cdi.specs.Table.{sameTable};
 ghost use Rattle.plan_stages.specs.Outlines.{Few};
-ghost use Rattle.access_sought.specs.Told.{knownOf};
+ghost use Rattle.access_lookup.specs.Told.{knownOf};
 ghost use Rattle.access_checked.specs.Told.{checkedOf, comparedBy, comparedOf};
 
 // The end of the text's content, where text and table are good; or the refusal.

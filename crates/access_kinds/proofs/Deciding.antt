@@ -11,7 +11,7 @@ use borrow.Author.Tests.{eq-eqb, ne-eqb, eqb-true, eqb-false, le-leb, lt-leb}
 use lib.Dec.{eqb, leb, ltb}
 use lib.IntN.{pos}
 use lib.ListN.{length}
-use Rattle.cdi.specs.Words.{ascii, given, any}
+use Rattle.cdi.specs.Lists.{ascii, given, any}
 use Rattle.cdi.specs.Text.{zeroFrom, isUtf8}
 use Rattle.cdi.specs.Numbers.{within}
 use Rattle.cdi.specs.Rules.{boundsOf}

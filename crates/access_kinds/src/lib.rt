@@ -12,7 +12,7 @@ use values::Zero;
 use values::first_zero;
 ghost use mathlib.Core.Path.{_≡_};
 ghost use lib.Dec.{eqb};
-ghost use Rattle.cdi.specs.Words.{any};
+ghost use Rattle.cdi.specs.Lists.{any};
 ghost use Rattle.cdi.specs.Access.{kindOfValue, isGoodText};
 ghost use Rattle.maps.specs.Matches.{wantedOf};
 ghost use Rattle.access_kinds.specs.Told.{noText, settingIs, insideBy, readCause};

@@ -9,7 +9,7 @@ use borrow.Author.Tests.{ne-eqb, eqb-true, eqb-false}
 use lib.Dec.{eqb}
 use lib.ListN.{length, take, drop, length-take}
 use lib.Seq.{take-take}
-use Rattle.cdi.specs.Words.{ascii}
+use Rattle.cdi.specs.Lists.{ascii}
 use Rattle.cdi.specs.Faults.{fault, accepted, refused, isAccepted}
 use Rattle.cdi.specs.Text.{zeroFrom, isUtf8}
 use Rattle.cdi.specs.Rules.{boundOf, isSigned, boundsOf}

@@ -24,7 +24,7 @@ pub fn put_all(out: &mut [u8], at: usize, bytes: &[u8]) -> usize
 {
     let to = room(out, at);
     if bytes.len() <= out.len() - to {
-        return lines_words::put_all(out, to, bytes);
+        return lines_items::put_all(out, to, bytes);
     }
     flush(out, to);
     io::write_all(1, bytes);
@@ -48,7 +48,7 @@ pub fn put_number(out: &mut [u8], at: usize, n: u64) -> usize
     ensures { λ r. ⌜ r ≤ length (now (out .entry)) ⌝ }
 {
     let to = room(out, at);
-    lines_words::put_number(out, to, n)
+    lines_items::put_number(out, to, n)
 }
 
 // A blank and a number.
@@ -57,7 +57,7 @@ pub fn put_next(out: &mut [u8], at: usize, n: u64) -> usize
     ensures { λ r. ⌜ r ≤ length (now (out .entry)) ⌝ }
 {
     let to = room(out, at);
-    lines_words::put_next(out, to, n)
+    lines_items::put_next(out, to, n)
 }
 
 // A blank and the word for a kind.
@@ -66,7 +66,7 @@ pub fn put_kind(out: &mut [u8], at: usize, kind: u64) -> usize
     ensures { λ r. ⌜ r ≤ length (now (out .entry)) ⌝ }
 {
     let to = room(out, at);
-    lines_words::put_kind(out, to, kind)
+    lines_items::put_kind(out, to, kind)
 }
 
 // `refused NUMBER PLACE`

@@ -7,7 +7,7 @@ use Prim.Native.Nat.{ℕ, suc, _≤_}
 use native.Mathlib.Numerals.{add-one}
 use native.Mathlib.Omega.{arith}
 use lib.ListN.{length, drop, length-drop}
-use Rattle.cdi.specs.Words.{ascii, any, same, among}
+use Rattle.cdi.specs.Lists.{ascii, any, same, among}
 use Rattle.cdi.specs.Faults.{accepted}
 use Rattle.cdi.specs.Text.{content}
 use Rattle.cdi.specs.Markup.{progress}

@@ -11,7 +11,7 @@ use lib.Dec.{eqb, leb, ltb}
 use lib.IntN.{ℤ, pos}
 use lib.ListN.{length, take, drop, getD, replicate, length-append, length-replicate, length-drop, List·getD-append}
 use lib.Seq.{take-at, drop-at, length-take-le, getD-take, getD-drop, getD-append-add}
-use Rattle.cdi.specs.Words.{any}
+use Rattle.cdi.specs.Lists.{any}
 use Rattle.cdi.specs.Faults.{Fault, fault, Answer, accepted, refused, _andThen_, isAccepted}
 use Rattle.cdi.specs.Numbers.{within}
 use Rattle.cdi.specs.Text.{isUtf8}

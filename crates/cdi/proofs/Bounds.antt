@@ -5,7 +5,7 @@ use mathlib.Core.Bool.{Bool, true, false, _&&_}
 use mathlib.Core.Option.{Option, none, some}
 use Prim.Native.Nat.{ℕ}
 use lib.IntN.{ℤ}
-use Rattle.cdi.specs.Words.{ascii, given, isEmpty, any, all, same, among, words-page}
+use Rattle.cdi.specs.Lists.{ascii, given, isEmpty, any, all, same, among, lists-page}
 use Rattle.cdi.specs.Faults.{unless}
 use Rattle.cdi.specs.Pieces.{Attribute}
 use Rattle.cdi.specs.Tree.{Nodes, end, element, other}
@@ -53,11 +53,11 @@ sound-holds w h r b (element p m s kids following) e =
     by false q i = rw q i
 
 min-name : NumberName (ascii "min")
-unfolding words-page rows-page numberNames
+unfolding lists-page rows-page numberNames
 min-name = record { bare = refl; listed = refl }
 
 max-name : NumberName (ascii "max")
-unfolding words-page rows-page numberNames
+unfolding lists-page rows-page numberNames
 max-name = record { bare = refl; listed = refl }
 
 -- the bounds of an int of n bytes with this content

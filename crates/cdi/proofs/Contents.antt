@@ -7,7 +7,7 @@ use Prim.Native.Nat.{ℕ}
 use native.Mathlib.Omega.{arith}
 use borrow.Author.Tests.{eqb-true, eq-eqb, ne-eqb}
 use lib.Dec.{eqb}
-use Rattle.cdi.specs.Words.{isSome}
+use Rattle.cdi.specs.Lists.{isSome}
 use Rattle.cdi.specs.Pieces.{Attribute}
 use Rattle.cdi.specs.Tree.{Nodes, end, element, other}
 use Rattle.cdi.specs.Access.{contentAt}

@@ -7,7 +7,7 @@ use native.Mathlib.Omega.{arith}
 use borrow.Author.Tests.{ltb-true}
 use lib.Dec.{ltb}
 use lib.ListN.{length, length-append}
-use Rattle.cdi.specs.Words.{ascii, same, among}
+use Rattle.cdi.specs.Lists.{ascii, same, among}
 use Rattle.cdi.specs.Faults.{unless}
 use Rattle.cdi.specs.Pieces.{Attribute, Piece, start, finish, remark, refer, text, malformed, unsupported, pieceAt, pieces}
 use Rattle.cdi.specs.Markup.{Progress, outside, refers, pieceFaults, next, markupFaults}

@@ -7,7 +7,7 @@ use Prim.Native.Nat.{ℕ}
 use native.Mathlib.Omega.{arith}
 use borrow.Author.Tests.{eqb-true, eq-eqb}
 use lib.Dec.{eqb}
-use Rattle.cdi.specs.Words.{any, same, among}
+use Rattle.cdi.specs.Lists.{any, same, among}
 use Rattle.cdi.specs.Faults.{Fault, unless, lesser, least, Answer, accepted, refused, _andThen_, stage}
 use Rattle.cdi.proofs.Tests.{both-left, both-right}
 

@@ -9,7 +9,7 @@ use native.Mathlib.Omega.{arith}
 use borrow.Author.Tests.{leb-true}
 use lib.Dec.{leb}
 use lib.IntN.{ℤ, pos, negsuc}
-use Rattle.cdi.specs.Words.{ascii, given, _>>=_, same, among, all, words-page}
+use Rattle.cdi.specs.Lists.{ascii, given, _>>=_, same, among, all, lists-page}
 use Rattle.cdi.specs.Faults.{Fault, unless}
 use Rattle.cdi.specs.Pieces.{Attribute, Piece, pieces-page}
 use Rattle.cdi.specs.Tree.{Nodes, element, other}
@@ -175,7 +175,7 @@ module _ (p : ℕ) (s : List Attribute) where
 
   -- An int's size is one of the texts for it.
   pub int-size : rulesFaults p (rowOf (ascii "int") .attributes) s ≡ [] → among (sizeText s) (map ascii intSizes) ≡ true
-  unfolding words-page rows-page
+  unfolding lists-page rows-page
   int-size e = size-rule p false intSizes s (λ z. refl) (first-rule _ _ e)
 
   text-fits : (k : ℕ) (ts : List String) → Each (λ w. sizeFits k (pos (given (number w) 0 natural)) ≡ true) (map ascii ts)
@@ -187,7 +187,7 @@ module _ (p : ℕ) (s : List Attribute) where
   variable-fits n g o z = record { offset = offset-rule o; replication = λ q. cc; sized = λ q. z }
 
   group-fits : FitsByRules (ascii "group")
-  unfolding words-page rows-page FitsByRules within
+  unfolding lists-page rows-page FitsByRules within
   group-fits e = record {
     offset = offset-rule (second-rule _ _ _ e);
     replication = λ q. range-rule p _ _ (pos 1) false (ascii "replication") s refl (first-rule _ _ e);
@@ -195,19 +195,19 @@ module _ (p : ℕ) (s : List Attribute) where
   }
 
   int-fits : FitsByRules (ascii "int")
-  unfolding words-page rows-page FitsByRules variableKind variableSize pieces-page numbers-page plans-page Each natural sameNumber
+  unfolding lists-page rows-page FitsByRules variableKind variableSize pieces-page numbers-page plans-page Each natural sameNumber
   int-fits e = variable-fits _ refl (second-rule _ _ _ e) (text-fits 3 intSizes (refl, (refl, (refl, (refl, tt)))) (int-size e))
 
   string-fits : FitsByRules (ascii "string")
-  unfolding words-page rows-page FitsByRules variableKind variableSize plans-page
+  unfolding lists-page rows-page FitsByRules variableKind variableSize plans-page
   string-fits e = variable-fits _ refl (second-rule _ _ _ e) (length-rule p 65535 s (first-rule _ _ e))
 
   eventid-fits : FitsByRules (ascii "eventid")
-  unfolding words-page rows-page FitsByRules variableKind variableSize plans-page sameNumber
+  unfolding lists-page rows-page FitsByRules variableKind variableSize plans-page sameNumber
   eventid-fits e = variable-fits _ refl (first-rule _ _ e) refl
 
   float-fits : FitsByRules (ascii "float")
-  unfolding words-page rows-page FitsByRules variableKind variableSize pieces-page numbers-page plans-page Each natural sameNumber
+  unfolding lists-page rows-page FitsByRules variableKind variableSize pieces-page numbers-page plans-page Each natural sameNumber
   float-fits e = variable-fits _ refl (second-rule _ _ _ e) (text-fits 6 floatSizes (refl, (refl, (refl, tt))) (size-rule p true floatSizes s (λ z. cc) (first-rule _ _ e)))
 
   -- A data element that keeps the rules for its attributes fits.
@@ -217,7 +217,7 @@ module _ (p : ℕ) (s : List Attribute) where
 
   -- A segment that keeps the rules for its attributes has a space and an origin in their ranges.
   pub segment-fits : (kids : Nodes) → rulesFaults p (rowOf (ascii "segment") .attributes) s ≡ [] → (segmentOf p s kids .origin ≤ 2147483647) × (segmentOf p s kids .space ≤ 255)
-  unfolding words-page rows-page segmentOf within
+  unfolding lists-page rows-page segmentOf within
   segment-fits kids e = (
     natural-within 0 2147483647 _ (range-rule p _ _ (pos 0) false (ascii "origin") s refl (second-rule _ _ _ e)) .1,
     natural-within 0 255 _ (range-rule p _ _ (pos 0) true (ascii "space") s refl (first-rule _ _ e)) .1,

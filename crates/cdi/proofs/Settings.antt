@@ -6,7 +6,7 @@ use mathlib.Core.Option.{some}
 use Prim.Native.Nat.{ℕ, _+_, _≤_}
 use native.Mathlib.Omega.{arith}
 use lib.IntN.{ℤ, pos}
-use Rattle.cdi.specs.Words.{ascii, given, isSome, same, among, words-page}
+use Rattle.cdi.specs.Lists.{ascii, given, isSome, same, among, lists-page}
 use Rattle.cdi.specs.Faults.{fault, Answer, accepted}
 use Rattle.cdi.specs.Pieces.{Attribute, Piece}
 use Rattle.cdi.specs.Tree.{Nodes, end, element, other, tree}
@@ -84,7 +84,7 @@ int-named n e = same-equal n (ascii "int") (by (same n (ascii "int")) (same n (a
 
 int-fits : (inInt : Bool) (p : ℕ) (n : List ℕ) (s : List Attribute) (kids : Nodes) → n ≡ ascii "int" → ownFaults inInt p n s kids ≡ []
     → faultsIn (rowOf n) (inInt || isInt n) nothingBefore kids ≡ [] → Bounded (variableSize n s) kids
-unfolding variableSize isInt words-page
+unfolding variableSize isInt lists-page
 int-fits inInt p n s kids q e i = rw q (int-bounded inInt p s kids (rw q at e) (rw (q, or-true) at i))
 
 module _ (t : List ℤ) (whole : Nodes) where

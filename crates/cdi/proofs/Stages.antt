@@ -7,7 +7,7 @@ use Prim.Native.Nat.{ℕ, suc, _+_, _≤_, _<_, min}
 use native.Mathlib.Omega.{arith}
 use lib.Dec.{eqb, leb}
 use lib.ListN.{length, take, length-take}
-use Rattle.cdi.specs.Words.{given, _>>=_, begins}
+use Rattle.cdi.specs.Lists.{given, _>>=_, begins}
 use Rattle.cdi.specs.Faults.{fault, least, accepted, refused}
 use Rattle.cdi.specs.Text.{zeroFrom, endOf, content, badCharacter, firstLine}
 use Rattle.cdi.specs.Markup.{progress, markupFaults}

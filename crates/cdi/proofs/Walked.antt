@@ -10,7 +10,7 @@ use native.Mathlib.Decide.{decLt}
 use lib.IntN.{ℤ, pos, negsuc, _+ℤ_, _*ℤ_, +ℤ-assoc, +ℤ-idr, +ℤ-idl}
 use lib.ListN.{length, getD, List·getD-append}
 use lib.Seq.{getD-append-add}
-use Rattle.cdi.specs.Words.{all}
+use Rattle.cdi.specs.Lists.{all}
 use Rattle.cdi.specs.Numbers.{within}
 use Rattle.cdi.specs.Walk.{Step, add, stand, copies, moves, addresses, isAddress, keeps, change, count, Variable, variables}
 use Rattle.cdi.proofs.Tests.{parts, ends}

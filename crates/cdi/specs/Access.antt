@@ -6,7 +6,7 @@ use Prim.Native.Nat.{ℕ, _+_, _-_}
 use lib.ListN.{length, take, drop}
 use lib.Dec.{eqb, leb, ltb}
 use lib.IntN.{ℤ}
-use Rattle.cdi.specs.Words.{ascii, given, isSome, any, same}
+use Rattle.cdi.specs.Lists.{ascii, given, isSome, any, same}
 use Rattle.cdi.specs.Faults.{fault, Answer, accepted, refused, _andThen_, isAccepted}
 use Rattle.cdi.specs.Text.{zeroFrom, isUtf8}
 use Rattle.cdi.specs.Pieces.{start, finish, remark, refer, text, malformed, unsupported}

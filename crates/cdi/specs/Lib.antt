@@ -1,6 +1,6 @@
 -- The definitions, in the order of document 01.
 pub mod Limits
-pub mod Words
+pub mod Lists
 pub mod Faults
 pub mod Text
 pub mod Pieces

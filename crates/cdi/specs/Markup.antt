@@ -5,7 +5,7 @@ use Prim.Native.Nat.{ℕ, _+_}
 use lib.ListN.{length}
 use lib.Dec.{eqb, ltb}
 use Rattle.cdi.specs.Limits.{deepest, mostElements}
-use Rattle.cdi.specs.Words.{any, all, while, same, isEmpty}
+use Rattle.cdi.specs.Lists.{any, all, while, same, isEmpty}
 use Rattle.cdi.specs.Faults.{Fault, fault, unless}
 use Rattle.cdi.specs.Pieces.{Attribute, Piece, start, finish, remark, refer, text, malformed, unsupported, blank}
 

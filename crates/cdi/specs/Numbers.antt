@@ -5,7 +5,7 @@ use mathlib.Core.Option.{Option, none, some}
 use Prim.Native.Nat.{ℕ, _-_, _^_}
 use lib.IntN.{ℤ, pos, negℤ}
 use lib.Signed.{leZ}
-use Rattle.cdi.specs.Words.{ascii, _>>=_, _orElse_, isEmpty, all, strip}
+use Rattle.cdi.specs.Lists.{ascii, _>>=_, _orElse_, isEmpty, all, strip}
 use Rattle.cdi.specs.Pieces.{digit, decimal}
 
 unfoldable pub digits : List ℕ → Option ℕ

@@ -5,7 +5,7 @@ use mathlib.Core.Option.{Option, none, some}
 use Prim.Native.Nat.{ℕ, zero, suc, _+_, _*_, _-_}
 use lib.ListN.{length, drop, getD}
 use lib.Dec.{eqb}
-use Rattle.cdi.specs.Words.{ascii, _>>=_, given, _orElse_, isSome, isEmpty, any, while, after, same, begins, strip, beyond, between}
+use Rattle.cdi.specs.Lists.{ascii, _>>=_, given, _orElse_, isSome, isEmpty, any, while, after, same, begins, strip, beyond, between}
 use Rattle.cdi.specs.Text.{isChar}
 
 pub record Attribute : Type 0 where

@@ -7,7 +7,7 @@ use lib.ListN.{length, drop}
 use lib.Dec.{leb}
 use lib.IntN.{ℤ, pos}
 use Rattle.cdi.specs.Limits.{firstLineLength, textLimit, mostVariables}
-use Rattle.cdi.specs.Words.{ascii, _>>=_, given, same, among, begins}
+use Rattle.cdi.specs.Lists.{ascii, _>>=_, given, same, among, begins}
 use Rattle.cdi.specs.Faults.{Fault, fault, least, Answer, accepted, refused, _andThen_, stage}
 use Rattle.cdi.specs.Text.{content, badCharacter, firstLine}
 use Rattle.cdi.specs.Pieces.{Attribute, Piece, pieces}

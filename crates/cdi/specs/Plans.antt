@@ -7,7 +7,7 @@ use lib.Dec.{eqb, leb, ltb}
 use lib.IntN.{ℤ, pos, negℤ}
 use lib.Signed.{ltZ}
 use Rattle.cdi.specs.Limits.{firstLineLength, deepest, mostVariables, mostSpace, mostOrigin, mostReplication, mostTextSize, lowestOffset, highestOffset}
-use Rattle.cdi.specs.Words.{any}
+use Rattle.cdi.specs.Lists.{any}
 use Rattle.cdi.specs.Faults.{Answer, accepted, refused, fault}
 use Rattle.cdi.specs.Numbers.{within}
 use Rattle.cdi.specs.Rules.{natural}

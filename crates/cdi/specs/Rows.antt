@@ -5,7 +5,7 @@ use Prim.Native.Nat.{ℕ}
 use Prim.Native.String.{String}
 use lib.IntN.{ℤ, pos, negℤ}
 use Rattle.cdi.specs.Limits.{mostSpace, mostOrigin, mostReplication, mostTextSize, lowestOffset, highestOffset}
-use Rattle.cdi.specs.Words.{ascii, same}
+use Rattle.cdi.specs.Lists.{ascii, same}
 
 -- what an attribute's text must be
 pub data Form : Type 0 where

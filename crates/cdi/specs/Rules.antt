@@ -7,7 +7,7 @@ use lib.ListN.{length}
 use lib.Dec.{eqb, ltb}
 use lib.IntN.{ℤ, pos, negsuc, negℤ}
 use lib.Signed.{leZ, ltZ}
-use Rattle.cdi.specs.Words.{ascii, _>>=_, given, isEmpty, any, all, while, after, same, among, strip}
+use Rattle.cdi.specs.Lists.{ascii, _>>=_, given, isEmpty, any, all, while, after, same, among, strip}
 use Rattle.cdi.specs.Faults.{Fault, fault, unless}
 use Rattle.cdi.specs.Pieces.{Attribute, Piece, start, finish, remark, refer, text, malformed, unsupported, blank, digit}
 use Rattle.cdi.specs.Tree.{Nodes, end, element, other}

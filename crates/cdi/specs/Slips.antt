@@ -6,7 +6,7 @@ use mathlib.Core.Bool.{true, false}
 use mathlib.Core.Option.{none, some}
 use lib.IntN.{pos}
 use lib.ListN.{replicate}
-use Rattle.cdi.specs.Words.{ascii}
+use Rattle.cdi.specs.Lists.{ascii}
 use Rattle.cdi.specs.Faults.{fault, least}
 use Rattle.cdi.specs.Text.{content}
 use Rattle.cdi.specs.Values.{withSign}

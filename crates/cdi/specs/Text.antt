@@ -6,7 +6,7 @@ use Prim.Native.Nat.{ℕ, zero, suc, _+_, _*_, _-_}
 use lib.ListN.{take, getD}
 use lib.Dec.{eqb, leb, ltb}
 use Rattle.cdi.specs.Limits.{textLimit}
-use Rattle.cdi.specs.Words.{ascii, _>>=_, given, begins, between}
+use Rattle.cdi.specs.Lists.{ascii, _>>=_, given, begins, between}
 
 -- "the first zero byte": its place in s, which stands at `at`
 unfoldable pub zeroFrom : ℕ → List ℕ → Option ℕ

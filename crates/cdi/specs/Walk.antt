@@ -3,7 +3,7 @@ use mathlib.Core.List.{List, [], _∷_, _++_, map}
 use mathlib.Core.Bool.{Bool}
 use Prim.Native.Nat.{ℕ, zero, suc, _+_, _^_}
 use lib.IntN.{ℤ, pos, _+ℤ_}
-use Rattle.cdi.specs.Words.{all}
+use Rattle.cdi.specs.Lists.{all}
 use Rattle.cdi.specs.Numbers.{within}
 use Rattle.cdi.specs.Rules.{natural}
 

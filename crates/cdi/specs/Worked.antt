@@ -6,7 +6,7 @@ use Prim.Native.Nat.{ℕ, _-_, _^_}
 use Prim.Native.String.{String}
 use lib.IntN.{ℤ, pos, negsuc}
 use lib.ListN.{replicate}
-use Rattle.cdi.specs.Words.{ascii, words-page}
+use Rattle.cdi.specs.Lists.{ascii, lists-page}
 use Rattle.cdi.specs.Faults.{Answer, accepted, refused, faults-page}
 use Rattle.cdi.specs.Text.{firstLine, text-page}
 use Rattle.cdi.specs.Pieces.{pieces-page}
@@ -24,7 +24,7 @@ use Rattle.cdi.specs.Access.{Window, Value, integer, string, written, wi
 
 -- opens every page
 unfoldable pub all-pages : Unit {0}
-unfolding words-page faults-page text-page pieces-page markup-page tree-page numbers-page rows-page rules-page walk-page table-page plans-page planning-page values-page access-page
+unfolding lists-page faults-page text-page pieces-page markup-page tree-page numbers-page rows-page rules-page walk-page table-page plans-page planning-page values-page access-page
 all-pages = tt
 
 -- "the root tag as in document 001 with one space between its attributes and double quotes", behind the first line

@@ -11,7 +11,7 @@ use lib.ListN.{length, drop, drop-of-length-le}
 use lib.Seq.{drop-nil}
 use Rattle.cdi.specs.Pieces.{Attribute, start, pieces}
 use Rattle.cdi.specs.Tree.{Nodes, end, element, other, grow, levels, top, tree}
-use Rattle.cdi.specs.Words.{same}
+use Rattle.cdi.specs.Lists.{same}
 use Rattle.cdi.specs.Access.{childOf}
 use Rattle.cdi.proofs.Quiet.{impossible}
 use Rattle.pieces_cuts.specs.Cuts.{pieceOf, Stands}

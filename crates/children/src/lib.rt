@@ -10,7 +10,7 @@ ghost use Prim.Native.Nat.{_≤_};
 ghost use lib.ListN.{length};
 ghost use Rattle.pieces_cuts.specs.Cuts.{Stands};
 ghost use Rattle.pieces_cuts.specs.declared.Kind.the-variants.{Start};
-ghost use Rattle.cdi.specs.Words.{same as sameBytes};
+ghost use Rattle.cdi.specs.Lists.{same as sameBytes};
 ghost use Rattle.levels.specs.Ahead.{nameIn};
 ghost use Rattle.children.specs.Siblings.{ahead, turnOf, Behind, NextChild, Passed, partOf, Named};
 

@@ -7,7 +7,7 @@ use native.Mathlib.Omega.{arith}
 use borrow.Author.Tests.{le-leb, leb-true}
 use lib.Dec.{leb}
 use lib.IntN.{ℤ, pos, negsuc, _+ℤ_}
-use Rattle.cdi.specs.Words.{all}
+use Rattle.cdi.specs.Lists.{all}
 use Rattle.cdi.specs.Walk.{Step, moves, addresses, isAddress, keeps, change, count}
 use Rattle.cdi.specs.Walk.Step.{add, stand}
 use Rattle.cdi.proofs.Tests.{parts, both, ends, in-range}

@@ -9,7 +9,7 @@ use borrow.Author.Needs.{needs}
 use borrow.Author.Tests.{eq-eqb, ne-eqb}
 use lib.Dec.{eqb, leb}
 use lib.ListN.{length}
-use Rattle.cdi.specs.Words.{while}
+use Rattle.cdi.specs.Lists.{while}
 use Rattle.cdi.specs.Faults.{fault, unless, lesser, least}
 use Rattle.cdi.specs.Pieces.{Piece, start, finish, remark, refer, text, malformed, unsupported, blank}
 use Rattle.cdi.specs.Numbers.{number}

@@ -10,7 +10,7 @@ ghost use mathlib.Core.Path.{_≡_};
 ghost use mathlib.Core.Bool.{cond};
 ghost use Prim.Native.Nat.{_+_, _≤_, _<_};
 ghost use lib.ListN.{length};
-ghost use Rattle.cdi.specs.Words.{while as longest};
+ghost use Rattle.cdi.specs.Lists.{while as longest};
 ghost use Rattle.cdi.specs.Pieces.{text, blank};
 ghost use Rattle.cdi.specs.Numbers.{number};
 ghost use Rattle.pieces_cuts.specs.Places.{part};

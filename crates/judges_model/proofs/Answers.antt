@@ -3,7 +3,7 @@ use mathlib.Core.Path.{_≡_, refl, sym, ap, _∙_}
 use mathlib.Core.List.{List, []}
 use mathlib.Core.Bool.{Bool, true, false, cond, not, _&&_, _||_}
 use Prim.Native.Nat.{ℕ, _≤_, _<_}
-use Rattle.cdi.specs.Words.{isEmpty, words-page}
+use Rattle.cdi.specs.Lists.{isEmpty, lists-page}
 use Rattle.cdi.specs.Faults.{least}
 use Rattle.cdi.specs.Pieces.{Attribute, text, pieces-page}
 use Rattle.cdi.specs.Numbers.{number, numbers-page}
@@ -45,7 +45,7 @@ module _ (j : Judge) (p : ℕ) (n : List ℕ) (s : List Attribute) {child entry 
 -- ── a plain leaf ──
 
 empty-none : saidBy (number []) ≡ No
-unfolding saidBy numbers-page words-page pieces-page
+unfolding saidBy numbers-page lists-page pieces-page
 empty-none = refl
 
 module _ (j r : Judge) (p : ℕ) (n : List ℕ) {child entry : ℕ} (ec : child ≡ elementNumber n) (ee : entry ≡ entryAt (j .row) child) (h : 12 ≤ child) (o : j .last < entry)

@@ -6,7 +6,7 @@ use mathlib.Core.Logic.{⊎-elim}
 use Prim.Native.Nat.{ℕ}
 use native.Mathlib.Omega.{arith}
 use borrow.Author.Tests.{eq-eqb, ne-eqb}
-use Rattle.cdi.specs.Words.{ascii, isEmpty, same}
+use Rattle.cdi.specs.Lists.{ascii, isEmpty, same}
 use Rattle.cdi.specs.Pieces.{Attribute}
 use Rattle.cdi.specs.Rules.{sizeText}
 use Rattle.scan.proofs.Tests.{eq-or-ne}

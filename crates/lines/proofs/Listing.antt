@@ -7,7 +7,7 @@ use native.Mathlib.Omega.{arith}
 use borrow.Author.Needs.{needs}
 use lib.ListN.{take, drop, getD}
 use lib.Seq.{getD-drop, drop-drop}
-use Rattle.lines_words.specs.Bytes.{line, linesIn}
+use Rattle.lines_items.specs.Bytes.{line, linesIn}
 
 -- i of the variables have their lines, and what is left gives what the whole gives
 pub record Lined (o : List ℕ) (n : ℕ) (xs : List ℕ) (count at i : ℕ) : Type 0 where

@@ -1,15 +1,15 @@
 // The bytes of a program's lines, put into a lent slice one part behind another. Each function says what stands before the place that it
 // returns.
 
-use lines_words::put_all;
-use lines_words::put_kind;
-use lines_words::put_next;
-use lines_words::put_number;
+use lines_items::put_all;
+use lines_items::put_kind;
+use lines_items::put_next;
+use lines_items::put_number;
 ghost use mathlib.Core.Path.{_≡_};
 ghost use mathlib.Core.List.{[]};
 ghost use Prim.Native.Nat.{_+_, _*_, _^_, _≤_, _<_};
 ghost use lib.ListN.{length, take};
-ghost use Rattle.lines_words.specs.Bytes.{line, linesIn, refusalLine, countLine};
+ghost use Rattle.lines_items.specs.Bytes.{line, linesIn, refusalLine, countLine};
 
 // The line of variable `n`.
 pub fn put_line(

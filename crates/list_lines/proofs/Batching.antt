@@ -6,7 +6,7 @@ use native.Mathlib.Omega.{arith}
 use lib.ListN.{length, drop, length-take}
 use Rattle.cdi.specs.Walk.{Found}
 use Rattle.listing.specs.Batch.{numbersOf, batch, listed}
-use Rattle.lines_words.specs.Bytes.{linesOf, linesIn}
+use Rattle.lines_items.specs.Bytes.{linesOf, linesIn}
 
 in-front : (s : List ℕ) (n : ℕ) (fs : List Found) (rest : List ℕ) → linesIn s n (numbersOf fs ++ rest) (length fs) ≡ linesOf s n fs
 unfolding linesIn linesOf numbersOf

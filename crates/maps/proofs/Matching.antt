@@ -11,7 +11,7 @@ use borrow.Author.Tests.{eq-eqb, ne-eqb, lt-ltb, le-ltb}
 use lib.Dec.{eqb}
 use lib.IntN.{ℤ, pos, negsuc}
 use lib.ListN.{length}
-use Rattle.cdi.specs.Words.{ascii, given, any, same}
+use Rattle.cdi.specs.Lists.{ascii, given, any, same}
 use Rattle.cdi.specs.Pieces.{Attribute}
 use Rattle.cdi.specs.Tree.{Nodes, end, element, other}
 use Rattle.cdi.specs.Rules.{ownText, ownNumber}

@@ -3,7 +3,7 @@ use mathlib.Core.Path.{_≡_, sym, _∙_}
 use mathlib.Core.List.{List}
 use mathlib.Core.Bool.{Bool}
 use Prim.Native.Nat.{ℕ}
-use Rattle.cdi.specs.Words.{any}
+use Rattle.cdi.specs.Lists.{any}
 use Rattle.cdi.specs.Access.{Value, equals, properties}
 use Rattle.levels.specs.Ahead.{here}
 

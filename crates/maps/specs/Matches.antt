@@ -3,7 +3,7 @@ use mathlib.Core.List.{List}
 use mathlib.Core.Bool.{Bool, false, cond, _&&_, _||_, Bool·beq}
 use Prim.Native.Nat.{ℕ}
 use lib.Dec.{eqb}
-use Rattle.cdi.specs.Words.{ascii, given, same}
+use Rattle.cdi.specs.Lists.{ascii, given, same}
 use Rattle.cdi.specs.Tree.{Nodes, end}
 use Rattle.cdi.specs.Values.{withSign}
 use Rattle.cdi.specs.Access.{Value, integer, event, string, childOf}

@@ -8,7 +8,7 @@ use native.Mathlib.Omega.{arith}
 use borrow.Author.Tests.{eqb-true}
 use lib.Dec.{eqb}
 use lib.ListN.{drop, getD}
-use Rattle.cdi.specs.Words.{ascii, _>>=_, _orElse_, isEmpty, while, after, between, begins, strip, beyond}
+use Rattle.cdi.specs.Lists.{ascii, _>>=_, _orElse_, isEmpty, while, after, between, begins, strip, beyond}
 use Rattle.cdi.specs.Text.{isChar}
 use Rattle.cdi.specs.Pieces.{Piece, start, finish, remark, refer, text, malformed, unsupported, blank, digit, nameStart, nameAt, isXml, comment, instruction, decimal, hexDigit, hexadecimal, referTo, numbered, named, reference, run, startTag, endTag, orMalformed, pieceAt}
 use Rattle.cdi.proofs.Quiet.{impossible}

@@ -9,7 +9,7 @@ use borrow.Author.Tests.{eqb-true, eqb-false, eq-eqb, ne-eqb}
 use lib.Dec.{eqb}
 use lib.ListN.{length, drop, getD, length-drop}
 use lib.Seq.{drop-drop}
-use Rattle.cdi.specs.Words.{ascii, begins}
+use Rattle.cdi.specs.Lists.{ascii, begins}
 use Rattle.cdi.specs.Pieces.{isText, run, endTag, startTag, orMalformed, pieceAt}
 use Rattle.cdi.proofs.Quiet.{impossible}
 use Rattle.cdi.proofs.Tests.{both-left, both-right}

@@ -6,7 +6,7 @@ use Prim.Native.Nat.{ℕ, _+_, _≤_, _<_}
 use native.Mathlib.Nat.{add-zero}
 use native.Mathlib.Omega.{arith}
 use lib.ListN.{length, drop, drop-of-length-le}
-use Rattle.cdi.specs.Words.{while}
+use Rattle.cdi.specs.Lists.{while}
 use Rattle.cdi.specs.Pieces.{start, finish, text, malformed, blank, attributes, pieceAt, pieces}
 use Rattle.cdi.specs.Markup.{refers}
 use Rattle.pieces_cuts.specs.Places.{part}

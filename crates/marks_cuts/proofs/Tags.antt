@@ -7,7 +7,7 @@ use Prim.Native.Nat.{ℕ, _+_, _≤_, _<_}
 use native.Mathlib.Omega.{arith}
 use borrow.Author.Tests.{eq-eqb, ne-eqb}
 use lib.ListN.{length, drop}
-use Rattle.cdi.specs.Words.{_>>=_}
+use Rattle.cdi.specs.Lists.{_>>=_}
 use Rattle.cdi.specs.Pieces.{Piece, start, attributes, tagEnd, twice, startTag, orMalformed}
 use Rattle.cdi.specs.Markup.{refers}
 use Rattle.pieces_cuts.specs.Places.{part, Name}

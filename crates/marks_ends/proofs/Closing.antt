@@ -10,7 +10,7 @@ use borrow.Author.Tests.{eq-eqb, ne-eqb}
 use lib.Dec.{eqb}
 use lib.ListN.{length, drop, getD, length-drop}
 use lib.Seq.{getD-drop}
-use Rattle.cdi.specs.Words.{same, begins, all, while, after, between}
+use Rattle.cdi.specs.Lists.{same, begins, all, while, after, between}
 use Rattle.cdi.specs.Pieces.{blank, digit, nameStart, nameByte, nameAt}
 use Rattle.cdi.proofs.Quiet.{impossible}
 use Rattle.cdi.proofs.Tests.{both-left, both-right, both}

@@ -8,7 +8,7 @@ use native.Mathlib.Omega.{arith}
 use borrow.Author.Needs.{needs}
 use borrow.Author.Tests.{eq-eqb, ne-eqb}
 use lib.ListN.{length, drop}
-use Rattle.cdi.specs.Words.{_>>=_, begins}
+use Rattle.cdi.specs.Lists.{_>>=_, begins}
 use Rattle.cdi.specs.Pieces.{finish, blank, endTag, orMalformed}
 use Rattle.scan.specs.Spans.{Span}
 use Rattle.scan.proofs.Spans.{span-rest}

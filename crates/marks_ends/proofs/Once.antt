@@ -4,7 +4,7 @@ use mathlib.Core.List.{List}
 use mathlib.Core.Bool.{cond}
 use mathlib.Core.Logic.{⊎-elim}
 use Prim.Native.Nat.{ℕ, _+_}
-use Rattle.cdi.specs.Words.{same}
+use Rattle.cdi.specs.Lists.{same}
 use Rattle.scan.proofs.Tests.{eq-or-ne}
 use Rattle.pieces_cuts.specs.Places.{part}
 use Rattle.marks_cuts.proofs.Once.{finish-once, finish-or-bad}

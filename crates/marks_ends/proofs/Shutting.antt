@@ -9,7 +9,7 @@ use borrow.Author.Tests.{eqb-true}
 use lib.Dec.{eqb}
 use lib.ListN.{length, drop, getD, length-append, length-drop, List·getD-append}
 use lib.Seq.{getD-at, getD-drop, getD-take}
-use Rattle.cdi.specs.Words.{begins}
+use Rattle.cdi.specs.Lists.{begins}
 use Rattle.cdi.proofs.Quiet.{impossible}
 use Rattle.cdi.proofs.Tests.{both-left, both-right}
 use Rattle.scan.proofs.Words.{Agrees, start, full, agrees, begun-length}

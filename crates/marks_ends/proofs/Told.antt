@@ -5,7 +5,7 @@ use mathlib.Core.Bool.{Bool, true, false, cond}
 use mathlib.Core.Logic.{_⊎_, inl, inr, ⊎-elim}
 use Prim.Native.Nat.{ℕ, _+_, _-_, _<_}
 use native.Mathlib.Omega.{arith}
-use Rattle.cdi.specs.Words.{same}
+use Rattle.cdi.specs.Lists.{same}
 use Rattle.scan.proofs.Tests.{eq-or-ne}
 use Rattle.pieces_cuts.specs.Places.{part}
 use Rattle.pieces_cuts.specs.Cuts.{Stands}

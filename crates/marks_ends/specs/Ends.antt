@@ -4,7 +4,7 @@ use mathlib.Core.List.{List, [], _∷_, _++_}
 use mathlib.Core.Bool.{cond}
 use Prim.Native.Nat.{ℕ, _+_, _-_}
 use lib.ListN.{drop}
-use Rattle.cdi.specs.Words.{same, begins}
+use Rattle.cdi.specs.Lists.{same, begins}
 use Rattle.pieces_cuts.specs.Places.{part}
 use Rattle.pieces_cuts.specs.Cuts.{Stands}
 use Rattle.marks_cuts.specs.Marks.{finishCut, badCut}

@@ -9,7 +9,7 @@ ghost use mathlib.Core.List.{[], _∷_};
 ghost use mathlib.Core.Bool.{true};
 ghost use Prim.Native.Nat.{_+_, _≤_, _<_};
 ghost use lib.ListN.{length, drop};
-ghost use Rattle.cdi.specs.Words.{begins};
+ghost use Rattle.cdi.specs.Lists.{begins};
 ghost use Rattle.pieces_cuts.specs.Places.{Name};
 ghost use Rattle.marks_ends.specs.Ends.{Finishes, shutEnd, Closes};
 

@@ -9,7 +9,7 @@ use borrow.Author.Needs.{needs}
 use borrow.Author.Tests.{eqb-true}
 use lib.Dec.{eqb}
 use lib.ListN.{length, drop, getD}
-use Rattle.cdi.specs.Words.{any, after, begins}
+use Rattle.cdi.specs.Lists.{any, after, begins}
 use Rattle.cdi.specs.Pieces.{blank, attributes, tagEnd, twice}
 use Rattle.cdi.specs.Markup.{refers}
 use Rattle.scan.specs.Spans.{spanEnd, Span}

@@ -9,7 +9,7 @@ use borrow.Author.Needs.{needs}
 use borrow.Author.Tests.{ne-eqb}
 use lib.Dec.{eqb}
 use lib.ListN.{length, drop, getD, drop-of-length-le}
-use Rattle.cdi.specs.Words.{begins}
+use Rattle.cdi.specs.Lists.{begins}
 use Rattle.scan.proofs.Along.{drop-next, nothing-there}
 use Rattle.scan.proofs.Tests.{lt-or-le}
 use Rattle.marks_cuts.specs.Marks.{sortAt}

@@ -11,7 +11,7 @@ use borrow.Author.Tests.{eq-eqb, ne-eqb, leb-true}
 use lib.Dec.{eqb, leb}
 use lib.ListN.{length, take, drop, getD, List·getD-map}
 use lib.Seq.{drop-drop}
-use Rattle.cdi.specs.Words.{same}
+use Rattle.cdi.specs.Lists.{same}
 use Rattle.cdi.proofs.Quiet.{same-equal}
 use Rattle.names.specs.Names.{elementNames, attributeNames, numberAmong, numberIn, elementNumber, attributeNumber}
 

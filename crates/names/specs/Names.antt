@@ -3,7 +3,7 @@ use mathlib.Core.List.{List, [], _∷_, map}
 use mathlib.Core.Bool.{cond}
 use Prim.Native.Nat.{ℕ, _+_}
 use lib.ListN.{take, drop}
-use Rattle.cdi.specs.Words.{ascii, same}
+use Rattle.cdi.specs.Lists.{ascii, same}
 
 -- those that have a row, and then: "All other elements hold text only"
 unfoldable pub elementNames : List (List ℕ)

@@ -10,7 +10,7 @@ use borrow.Author.Tests.{eqb-true, ne-eqb}
 use lib.Dec.{eqb}
 use lib.ListN.{length, take, drop, getD, length-drop}
 use lib.Seq.{drop-drop, getD-drop}
-use Rattle.cdi.specs.Words.{begins, all, while, after}
+use Rattle.cdi.specs.Lists.{begins, all, while, after}
 use Rattle.cdi.specs.Pieces.{nameStart, nameByte, nameAt}
 use Rattle.cdi.proofs.Quiet.{impossible}
 use Rattle.cdi.proofs.Tests.{both-left, both-right}

@@ -4,7 +4,7 @@ use mathlib.Core.List.{List, [], _∷_}
 use mathlib.Core.Bool.{Bool, false, cond, _&&_}
 use Prim.Native.Nat.{ℕ, _+_}
 use lib.ListN.{length, drop, getD}
-use Rattle.cdi.specs.Words.{begins, all, between}
+use Rattle.cdi.specs.Lists.{begins, all, between}
 use Rattle.cdi.specs.Pieces.{nameStart, nameByte}
 use Rattle.pieces_cuts.specs.Places.{part, Name}
 

@@ -8,7 +8,7 @@ use native.Mathlib.Omega.{arith}
 use borrow.Author.Needs.{needs}
 use borrow.Author.Tests.{eq-eqb, ne-eqb}
 use lib.ListN.{length, take, drop, getD}
-use Rattle.cdi.specs.Words.{same, after, strip, begins}
+use Rattle.cdi.specs.Lists.{same, after, strip, begins}
 use Rattle.cdi.specs.Pieces.{digit}
 use Rattle.cdi.specs.Rules.{isFormatting}
 use Rattle.scan.specs.Spans.{ofClass, Span}

@@ -13,7 +13,7 @@ use lib.IntN.{pos, negℤ}
 use mir.Syntax.{w64}
 use mir.Val.{Fits}
 use lib.ListN.{length, take, drop, getD, drop-of-length-le}
-use Rattle.cdi.specs.Words.{_>>=_, _orElse_, isEmpty, all, strip, begins, between}
+use Rattle.cdi.specs.Lists.{_>>=_, _orElse_, isEmpty, all, strip, begins, between}
 use Rattle.cdi.specs.Pieces.{digit, decimal}
 use Rattle.cdi.specs.Numbers.{digits, number}
 use Rattle.cdi.specs.Values.{withSign}

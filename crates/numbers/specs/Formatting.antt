@@ -2,7 +2,7 @@
 use mathlib.Core.List.{List}
 use mathlib.Core.Bool.{Bool, false}
 use Prim.Native.Nat.{ℕ}
-use Rattle.cdi.specs.Words.{ascii, given, same, after, strip}
+use Rattle.cdi.specs.Lists.{ascii, given, same, after, strip}
 use Rattle.cdi.specs.Pieces.{digit}
 
 -- "`.` and any digits or none, then `f`"

@@ -5,7 +5,7 @@ ghost use mathlib.Core.Path.{_≡_};
 ghost use Prim.Native.Nat.{_-_, _≤_};
 ghost use lib.Dec.{eqb, leb};
 ghost use lib.Signed.{leZ};
-ghost use Rattle.cdi.specs.Words.{ascii, same as sameBytes, after};
+ghost use Rattle.cdi.specs.Lists.{ascii, same as sameBytes, after};
 ghost use Rattle.cdi.specs.Pieces.{digit};
 ghost use Rattle.cdi.specs.Numbers.{number, digits as digitsIn};
 ghost use Rattle.cdi.specs.Rules.{isFormatting};

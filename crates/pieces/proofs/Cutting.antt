@@ -9,7 +9,7 @@ use borrow.Author.Needs.{needs}
 use borrow.Author.Tests.{eq-eqb, ne-eqb}
 use lib.ListN.{length, take, drop, getD, length-drop}
 use lib.Seq.{drop-drop}
-use Rattle.cdi.specs.Words.{ascii, begins}
+use Rattle.cdi.specs.Lists.{ascii, begins}
 use Rattle.cdi.specs.Pieces.{Piece, unsupported, isText, comment, instruction, endTag, startTag, reference, run, orMalformed, pieceAt, pieces}
 use Rattle.scan.proofs.Along.{drop-next, rest}
 use Rattle.pieces_cuts.specs.Places.{part}

@@ -6,7 +6,7 @@ use mathlib.Core.Bool.{Bool}
 use Prim.Native.Nat.{ℕ, _+_}
 use native.Mathlib.Omega.{arith}
 use lib.ListN.{drop}
-use Rattle.cdi.specs.Words.{any}
+use Rattle.cdi.specs.Lists.{any}
 use Rattle.cdi.specs.Pieces.{Piece, start, finish, remark, refer, text, malformed, unsupported, lower, attributes, bears, twice}
 use Rattle.cdi.specs.Markup.{refers}
 use Rattle.pieces_characters.specs.Characters.{clip, valueIn, Encoded}

@@ -15,7 +15,7 @@ ghost use mathlib.Core.List.{[], _∷_};
 ghost use mathlib.Core.Bool.{true};
 ghost use Prim.Native.Nat.{_<_};
 ghost use lib.ListN.{length};
-ghost use Rattle.cdi.specs.Words.{begins};
+ghost use Rattle.cdi.specs.Lists.{begins};
 ghost use Rattle.cdi.specs.Pieces.{pieceAt};
 ghost use Rattle.pieces_cuts.specs.Cuts.{Cuts, Stands};
 

@@ -11,7 +11,7 @@ use borrow.Author.Tests.{eq-eqb, ne-eqb}
 use lib.Dec.{eqb}
 use lib.ListN.{length, drop, getD, drop-of-length-le, length-drop}
 use lib.Seq.{drop-drop}
-use Rattle.cdi.specs.Words.{ascii, _>>=_, given, any, after, same, begins, between}
+use Rattle.cdi.specs.Lists.{ascii, _>>=_, given, any, after, same, begins, between}
 use Rattle.cdi.specs.Pieces.{Attribute, blank, nameStart, nameAt, attributeAt, attributes, tagEnd, bears, twice}
 use Rattle.cdi.specs.Markup.{refers}
 use Rattle.scan.proofs.Along.{drop-next}

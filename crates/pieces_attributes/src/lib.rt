@@ -10,7 +10,7 @@ use spans::value_rest;
 ghost use mathlib.Core.Path.{_≡_};
 ghost use Prim.Native.Nat.{_≤_};
 ghost use lib.ListN.{length, drop};
-ghost use Rattle.cdi.specs.Words.{any};
+ghost use Rattle.cdi.specs.Lists.{any};
 ghost use Rattle.cdi.specs.Pieces.{isQuote, attributes, bears};
 ghost use Rattle.cdi.specs.Markup.{refers};
 ghost use Rattle.pieces_cuts.specs.Places.{Quoted, Here, Next};

@@ -8,7 +8,7 @@ use native.Mathlib.Omega.{arith}
 use borrow.Author.Needs.{needs}
 use borrow.Author.Tests.{ne-eqb, lt-ltb, le-ltb, le-leb, lt-leb}
 use lib.ListN.{length, drop, getD, drop-of-length-le}
-use Rattle.cdi.specs.Words.{between}
+use Rattle.cdi.specs.Lists.{between}
 use Rattle.cdi.specs.Text.{isChar}
 use Rattle.cdi.specs.Pieces.{digit, lower, hexValue, decimal, hexadecimal, referTo}
 use Rattle.scan.proofs.Along.{drop-next}

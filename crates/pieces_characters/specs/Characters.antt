@@ -6,7 +6,7 @@ use mathlib.Core.Option.{Option}
 use Prim.Native.Nat.{ℕ, _+_, _*_, _-_, min}
 use lib.ListN.{length}
 use lib.Dec.{ltb}
-use Rattle.cdi.specs.Words.{ascii, _>>=_, _orElse_, strip}
+use Rattle.cdi.specs.Lists.{ascii, _>>=_, _orElse_, strip}
 use Rattle.cdi.specs.Pieces.{Piece, digit, hexDigit, hexValue, decimal, hexadecimal, numbered}
 use Rattle.cdi.specs.Values.{padded, utf8}
 use Rattle.pieces_characters.specs.declared.Encoding.{Encoding}

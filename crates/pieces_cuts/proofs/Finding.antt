@@ -10,7 +10,7 @@ use borrow.Author.Needs.{needs}
 use borrow.Author.Tests.{eq-eqb, ne-eqb}
 use lib.ListN.{length, take, drop, getD, drop-of-length-le, length-drop}
 use lib.Seq.{drop-drop}
-use Rattle.cdi.specs.Words.{begins, strip, beyond}
+use Rattle.cdi.specs.Lists.{begins, strip, beyond}
 use Rattle.cdi.specs.Pieces.{nameStart, nameAt}
 use Rattle.scan.specs.Spans.{ofClass, Span}
 use Rattle.scan.specs.declared.Class.the-variants.{Name as Names}

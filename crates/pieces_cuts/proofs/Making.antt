@@ -7,7 +7,7 @@ use Prim.Native.Nat.{ℕ, _≤_, _<_}
 use native.Mathlib.Omega.{arith}
 use borrow.Author.Needs.{needs}
 use lib.ListN.{length, drop, drop-of-length-le}
-use Rattle.cdi.specs.Words.{while}
+use Rattle.cdi.specs.Lists.{while}
 use Rattle.cdi.specs.Pieces.{Piece, remark, refer, malformed, unsupported, orMalformed}
 use Rattle.pieces_cuts.specs.Cuts.{plainCut, pieceOf, before, nameOf, textOf, codeOf, shortOf, refersOf, Cuts}
 use Rattle.pieces_cuts.specs.declared.Kind.{Kind}

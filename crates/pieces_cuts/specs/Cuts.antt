@@ -5,7 +5,7 @@ use mathlib.Core.Bool.{Bool, false, cond}
 use mathlib.Core.Option.{Option, none, some}
 use Prim.Native.Nat.{ℕ, _+_, _≤_, _<_}
 use lib.ListN.{length, drop}
-use Rattle.cdi.specs.Words.{while}
+use Rattle.cdi.specs.Lists.{while}
 use Rattle.cdi.specs.Pieces.{Piece, start, finish, remark, refer, text, malformed, unsupported, blank, attributes, twice, pieceAt, pieces}
 use Rattle.cdi.specs.Markup.{refers}
 use Rattle.pieces_cuts.specs.Places.{part}

@@ -6,7 +6,7 @@ use mathlib.Core.Option.{Option, none, some}
 use Prim.Native.Nat.{ℕ, _+_, _-_, _≤_}
 use lib.ListN.{length, take, drop, getD}
 use lib.Dec.{eqb, ltb}
-use Rattle.cdi.specs.Words.{ascii, after, begins, beyond}
+use Rattle.cdi.specs.Lists.{ascii, after, begins, beyond}
 use Rattle.cdi.specs.Pieces.{Attribute, blank, nameAt, quoted, attributeAt, attributes, tagEnd}
 use Rattle.scan.specs.Spans.{spanEnd}
 use Rattle.pieces_cuts.specs.declared.places.Attribute.{Attribute as Places}

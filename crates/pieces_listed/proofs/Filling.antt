@@ -8,7 +8,7 @@ use native.Mathlib.Omega.{arith}
 use borrow.Author.Needs.{needs}
 use lib.ListN.{length, drop, getD, set}
 use lib.Seq.{getD-set-same, getD-set-other}
-use Rattle.cdi.specs.Words.{any, same}
+use Rattle.cdi.specs.Lists.{any, same}
 use Rattle.cdi.specs.Pieces.{attributes, bears, twice}
 use Rattle.cdi.proofs.Quiet.{impossible, same-equal}
 use Rattle.pieces_cuts.specs.Places.{part, Next}

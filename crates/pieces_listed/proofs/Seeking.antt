@@ -5,7 +5,7 @@ use mathlib.Core.Bool.{Bool, true, false, _||_}
 use Prim.Native.Nat.{ℕ, _≤_}
 use borrow.Author.Needs.{needs}
 use lib.ListN.{length, drop}
-use Rattle.cdi.specs.Words.{any}
+use Rattle.cdi.specs.Lists.{any}
 use Rattle.cdi.specs.Pieces.{attributes, bears, twice}
 use Rattle.pieces_cuts.specs.Places.{part, Next}
 use Rattle.pieces_cuts.specs.declared.places.Attribute.{Attribute as Places}

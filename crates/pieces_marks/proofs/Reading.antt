@@ -11,7 +11,7 @@ use borrow.Author.Tests.{eq-eqb, ne-eqb}
 use lib.Dec.{eqb}
 use lib.ListN.{length, drop, getD, drop-of-length-le, length-drop, length-take}
 use lib.Seq.{getD-drop}
-use Rattle.cdi.specs.Words.{ascii, _>>=_, isSome, isEmpty, while, begins, beyond}
+use Rattle.cdi.specs.Lists.{ascii, _>>=_, isSome, isEmpty, while, begins, beyond}
 use Rattle.cdi.specs.Pieces.{finish, remark, blank, isText, lower, isXml, endTag, comment, instruction, run, orMalformed}
 use Rattle.scan.specs.Spans.{ofClass, spanEnd, Span}
 use Rattle.scan.specs.declared.Class.the-variants.{Blank, Text as Texts}

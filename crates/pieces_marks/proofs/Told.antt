@@ -8,7 +8,7 @@ use native.Mathlib.Omega.{arith}
 use borrow.Author.Tests.{eq-eqb, ne-eqb}
 use lib.Dec.{eqb}
 use lib.ListN.{length}
-use Rattle.cdi.specs.Words.{all, while}
+use Rattle.cdi.specs.Lists.{all, while}
 use Rattle.cdi.specs.Pieces.{blank}
 use Rattle.scan.proofs.Tests.{eq-or-ne}
 use Rattle.pieces_cuts.specs.Places.{part}

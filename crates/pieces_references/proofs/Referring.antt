@@ -9,7 +9,7 @@ use native.Mathlib.Omega.{arith}
 use borrow.Author.Needs.{needs}
 use borrow.Author.Tests.{eq-eqb, ne-eqb}
 use lib.ListN.{length, take, drop}
-use Rattle.cdi.specs.Words.{ascii, _>>=_, _orElse_, isEmpty, while, after, begins, strip, between}
+use Rattle.cdi.specs.Lists.{ascii, _>>=_, _orElse_, isEmpty, while, after, begins, strip, between}
 use Rattle.cdi.specs.Text.{isChar}
 use Rattle.cdi.specs.Pieces.{Piece, refer, digit, hexDigit, decimal, hexadecimal, referTo, numbered, named, reference, orMalformed}
 use Rattle.scan.specs.Spans.{ofClass, Span}

@@ -9,7 +9,7 @@ use borrow.Author.Needs.{needs}
 use borrow.Author.Tests.{eq-eqb, ne-eqb}
 use lib.ListN.{length, drop}
 use lib.Seq.{drop-drop}
-use Rattle.cdi.specs.Words.{_>>=_, any, while, begins}
+use Rattle.cdi.specs.Lists.{_>>=_, any, while, begins}
 use Rattle.cdi.specs.Pieces.{start, attributes, twice, startTag, orMalformed}
 use Rattle.cdi.specs.Markup.{refers}
 use Rattle.scan.specs.Spans.{ofClass, Span}

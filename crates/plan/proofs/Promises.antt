@@ -11,7 +11,7 @@ use lib.Dec.{leb}
 use lib.IntN.{ℤ}
 use lib.ListN.{length, take, getD}
 use lib.Seq.{take-at}
-use Rattle.cdi.specs.Words.{begins}
+use Rattle.cdi.specs.Lists.{begins}
 use Rattle.cdi.specs.Faults.{fault, least, Answer, accepted, refused, _andThen_}
 use Rattle.cdi.specs.Text.{content, badCharacter, firstLine}
 use Rattle.cdi.specs.Markup.{progress, markupFaults}

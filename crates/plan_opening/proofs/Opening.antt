@@ -8,7 +8,7 @@ use native.Mathlib.Omega.{arith}
 use borrow.Author.Needs.{needs}
 use lib.ListN.{length, take, drop, length-take}
 use lib.Seq.{take-length}
-use Rattle.cdi.specs.Words.{begins}
+use Rattle.cdi.specs.Lists.{begins}
 use Rattle.cdi.specs.Faults.{accepted, _andThen_}
 use Rattle.cdi.specs.Text.{badCharacter, firstLine}
 use Rattle.cdi.specs.Planning.{ending, characters, opening}

@@ -16,14 +16,14 @@ use Rattle.cdi.specs.Planning.{cut, markup}
 use Rattle.rules_judge.specs.declared.Least.{Least}
 use Rattle.rules_judge.specs.declared.Least.the-variants.{Nothing, Is}
 use Rattle.judges_state.specs.Decoded.{leastIn, judgeOf}
-use Rattle.gauge_tag.specs.declared.Leaves.{Leaves}
-use Rattle.gauge_tag.specs.declared.Leaves.the-variants.{Never, At}
-use Rattle.gauges_state.specs.Flat.{leavesOf, gaugeOf}
-use Rattle.pass_sums.specs.Sums.{atFirst, recordsOf}
-use Rattle.pass_laws.proofs.Outside.{clean, folded-all}
-use Rattle.pass_state.specs.States.{stateOf}
-use Rattle.pass_reading.specs.Reading.{ContentReads}
-use Rattle.pass_reading.specs.declared.Reached.{Reached}
+use Rattle.tally_tag.specs.declared.Leaves.{Leaves}
+use Rattle.tally_tag.specs.declared.Leaves.the-variants.{Never, At}
+use Rattle.tallies_state.specs.Flat.{leavesOf, tallyOf}
+use Rattle.parse_sums.specs.Sums.{atFirst, recordsOf}
+use Rattle.parse_laws.proofs.Outside.{clean, folded-all}
+use Rattle.parse_state.specs.States.{stateOf}
+use Rattle.parse_elements.specs.Reading.{ContentReads}
+use Rattle.parse_elements.specs.declared.Reached.{Reached}
 use Rattle.plan_stages.specs.declared.Planned.{Planned}
 use Rattle.plan_stages.specs.declared.Planned.the-variants.{Accepted, Refused}
 use Rattle.plan_stages.specs.Outlines.{Outline, ofMarkup, ofTree, inRoom, saidOf, Few, countedBy, addressedBy, ruledBy, settledBy}
@@ -63,17 +63,17 @@ module _ {c : List ℕ} {t t′ : List ℤ} {r : Reached} (w : ContentReads c 24
   unfolding saidOf cut
   not-read z = sym (rw (marked c (some (fault (r .number) (r .place))) (w .fails z .first [] refl)))
 
-  module _ (z : r .number ≡ 0) {p : Planned} (q : p ≡ settledBy (leastIn (r .state .judge .least)) (leavesOf (r .state .gauge .leaves)) (r .state .gauge .records) (r .state .gauge .total) (r .state .gauge .root)) where
-    few : r .state .gauge .records ≤ 4096
-    unfolding recordsOf stateOf gaugeOf
+  module _ (z : r .number ≡ 0) {p : Planned} (q : p ≡ settledBy (leastIn (r .state .judge .least)) (leavesOf (r .state .tally .leaves)) (r .state .tally .records) (r .state .tally .total) (r .state .tally .root)) where
+    few : r .state .tally .records ≤ 4096
+    unfolding recordsOf stateOf tallyOf
     few = omega (arith, w .done z .few, w .done z .begun)
 
     meant : p ≡ settledOf (stateOf (r .state))
-    unfolding stateOf judgeOf gaugeOf
+    unfolding stateOf judgeOf tallyOf
     meant = q
 
     pub was-read : saidOf p t′ ≡ (ofMarkup c andThen inRoom (length t))
-    unfolding cut stateOf gaugeOf least
+    unfolding cut stateOf tallyOf least
     was-read =
         let none-is = ap least (clean (w .done z) (w .over z refl .0) (w .over z refl .1)) in
         ap (λ (x : Planned). saidOf x t′) meant
@@ -82,6 +82,6 @@ module _ {c : List ℕ} {t t′ : List ℤ} {r : Reached} (w : ContentReads c 24
 
     pub few-read : Few p
     unfolding settledBy
-    few-read = rw q (few-ruled (leastIn (r .state .judge .least)) _ (few-addressed (leavesOf (r .state .gauge .leaves)) _ (few-counted _ _ _ few)))
+    few-read = rw q (few-ruled (leastIn (r .state .judge .least)) _ (few-addressed (leavesOf (r .state .tally .leaves)) _ (few-counted _ _ _ few)))
 
 pub ruleset outlines = (not-read, was-read, few-read, few-refused, needs)

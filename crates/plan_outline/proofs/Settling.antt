@@ -25,17 +25,17 @@ use Rattle.rules_judge.specs.declared.Least.{Least}
 use Rattle.rules_judge.specs.declared.Least.the-variants.{Nothing, Is}
 use Rattle.rules_judge.specs.Judging as J
 use Rattle.rules.proofs.Judged.{judged}
-use Rattle.gauge_tag.specs.declared.Gauge.{Gauge}
-use Rattle.gauge_tag.specs.declared.Leaves.{Leaves}
-use Rattle.gauge_tag.specs.declared.Leaves.the-variants.{Never, At}
-use Rattle.gauge_tag.specs.Gauging as G
-use Rattle.gauge_tag.specs.Gauging.{Gauged}
-use Rattle.gauge.proofs.Gauged.{records-gauged, leaves-gauged, total-gauged, table-gauged}
-use Rattle.pass_sums.specs.declared.State.{State}
-use Rattle.pass_sums.specs.Sums.{atFirst}
-use Rattle.pass_sums.specs.Folding.{Folded, folded, foldNodes}
-use Rattle.pass_sums.proofs.Splitting.{judge-alone, gauge-alone, table-alone, root-alone}
-use Rattle.pass_sums.proofs.Shorter.{front, fold-front}
+use Rattle.tally_tag.specs.declared.Tally.{Tally}
+use Rattle.tally_tag.specs.declared.Leaves.{Leaves}
+use Rattle.tally_tag.specs.declared.Leaves.the-variants.{Never, At}
+use Rattle.tally_tag.specs.Gauging as G
+use Rattle.tally_tag.specs.Gauging.{Tallied}
+use Rattle.tally.proofs.Tallied.{records-tallied, leaves-tallied, total-tallied, table-tallied}
+use Rattle.parse_sums.specs.declared.State.{State}
+use Rattle.parse_sums.specs.Sums.{atFirst}
+use Rattle.parse_sums.specs.Folding.{Folded, folded, foldNodes}
+use Rattle.parse_sums.proofs.Splitting.{judge-alone, tally-alone, table-alone, root-alone}
+use Rattle.parse_sums.proofs.Shorter.{front, fold-front}
 use Rattle.plan_stages.specs.declared.Planned.{Planned}
 use Rattle.plan_stages.specs.declared.Planned.the-variants.{Accepted, Refused}
 use Rattle.plan_stages.specs.Outlines.{Outline, outline, outlined, ofTree, inRoom, saidOf, countedBy, addressedBy, ruledBy, settledBy}
@@ -43,7 +43,7 @@ use Rattle.plan_stages.proofs.Settling.{few-enough, too-many}
 
 -- stages 8 to 12 of a state at the end
 abbrev pub settledOf : State → Planned
-settledOf st = settledBy (st .judge .least) (st .gauge .leaves) (st .gauge .records) (st .gauge .total) (st .root)
+settledOf st = settledBy (st .judge .least) (st .tally .leaves) (st .tally .records) (st .tally .total) (st .root)
 
 -- rows that were written from the front stand in front
 in-front : (t r : List ℤ) {n : ℕ} → length r ≡ n → n ≤ length t → take n (sets t 0 r) ≡ r
@@ -77,24 +77,24 @@ unfolding ofTree elements
 unclean u k = rw k
 
 module _ (t : List ℤ) (u : Nodes) (st : State) (t′ : List ℤ) (q : folded st t′ ≡ foldNodes atFirst t u) where
-  abbrev gauged : Gauged
-  gauged = G.gaugeNodes G.atStart t u
+  abbrev tallied : Tallied
+  tallied = G.tallyNodes G.atStart t u
 
   abbrev told : Description
   told = describe u u
 
   abbrev last : Planned
-  last = countedBy (st .gauge .records) (st .gauge .total) (st .root)
+  last = countedBy (st .tally .records) (st .tally .total) (st .root)
 
   least-is : J.asFault (st .judge .least) ≡ least (elementFaults u)
   unfolding atFirst
   least-is = ap (λ (f : Folded). J.asFault (f .state .judge .least)) q ∙ ap (λ (j : Judge). J.asFault (j .least)) (judge-alone atFirst t u) ∙ judged u
 
-  gauge-is : st .gauge ≡ gauged .gauge
+  tally-is : st .tally ≡ tallied .tally
   unfolding atFirst
-  gauge-is = ap (λ (f : Folded). f .state .gauge) q ∙ gauge-alone atFirst t u
+  tally-is = ap (λ (f : Folded). f .state .tally) q ∙ tally-alone atFirst t u
 
-  table-is : t′ ≡ gauged .table
+  table-is : t′ ≡ tallied .table
   unfolding atFirst
   table-is = ap (λ (f : Folded). f .table) q ∙ table-alone atFirst t u
 
@@ -102,34 +102,34 @@ module _ (t : List ℤ) (u : Nodes) (st : State) (t′ : List ℤ) (q : folded s
   unfolding atFirst G.atStart
   root-is = ap (λ (f : Folded). f .state .root) q ∙ root-alone atFirst t u u refl refl
 
-  module _ (room : 8 * st .gauge .records ≤ length t) where
+  module _ (room : 8 * st .tally .records ≤ length t) where
     module _ (h : elementFaults u ≡ []) where
-      records-are : st .gauge .records ≡ recordsOf (told .segments)
-      records-are = ap (λ (g : Gauge). g .records) gauge-is ∙ records-gauged t u h
+      records-are : st .tally .records ≡ recordsOf (told .segments)
+      records-are = ap (λ (g : Tally). g .records) tally-is ∙ records-tallied t u h
 
-      leaves-are : G.asFault (st .gauge .leaves) ≡ leaving 0 (told .segments)
-      leaves-are = ap (λ (g : Gauge). G.asFault (g .leaves)) gauge-is ∙ leaves-gauged t u h
+      leaves-are : G.asFault (st .tally .leaves) ≡ leaving 0 (told .segments)
+      leaves-are = ap (λ (g : Tally). G.asFault (g .leaves)) tally-is ∙ leaves-tallied t u h
 
       module _ (k : leaving 0 (told .segments) ≡ none) where
-        total-is : st .gauge .total ≡ min (total (told .segments)) 1000001
-        total-is = ap (λ (g : Gauge). g .total) gauge-is ∙ total-gauged t u h k
+        total-is : st .tally .total ≡ min (total (told .segments)) 1000001
+        total-is = ap (λ (g : Tally). g .total) tally-is ∙ total-tallied t u h k
 
-        rows-are : total (told .segments) ≤ 1000000 → take (8 * st .gauge .records) t′ ≡ tableOf (told .segments)
+        rows-are : total (told .segments) ≤ 1000000 → take (8 * st .tally .records) t′ ≡ tableOf (told .segments)
         rows-are m =
-            ap (λ (x : List ℤ). take (8 * st .gauge .records) x) (table-is ∙ table-gauged t u h k m)
+            ap (λ (x : List ℤ). take (8 * st .tally .records) x) (table-is ∙ table-tallied t u h k m)
             ∙ in-front t (tableOf (told .segments)) (length-table (told .segments) ∙ ap (λ n. 8 * n) (sym records-are)) (omega arith)
 
-        enough : st .gauge .total ≤ 1000000 → saidOf (Accepted (st .gauge .records) (st .gauge .total)) t′ ≡ (counting told andThen outlined)
+        enough : st .tally .total ≤ 1000000 → saidOf (Accepted (st .tally .records) (st .tally .total)) t′ ≡ (counting told andThen outlined)
         unfolding saidOf
         enough m =
             let l : total (told .segments) ≤ 1000000 = omega (arith, total-is) in
-            let e : st .gauge .total ≡ total (told .segments) = omega (arith, total-is) in
-            ap (λ n. accepted (outline n (st .gauge .total) (take (8 * st .gauge .records) t′))) records-are
-            ∙ ap (λ v. accepted (outline (recordsOf (told .segments)) v (take (8 * st .gauge .records) t′))) e
+            let e : st .tally .total ≡ total (told .segments) = omega (arith, total-is) in
+            ap (λ n. accepted (outline n (st .tally .total) (take (8 * st .tally .records) t′))) records-are
+            ∙ ap (λ v. accepted (outline (recordsOf (told .segments)) v (take (8 * st .tally .records) t′))) e
             ∙ ap (λ r. accepted (outline (recordsOf (told .segments)) (total (told .segments)) r)) (rows-are l)
             ∙ sym (counts told (le-leb _ _ l))
 
-        many : 1000000 < st .gauge .total → saidOf (Refused 12 (st .root)) t′ ≡ (counting told andThen outlined)
+        many : 1000000 < st .tally .total → saidOf (Refused 12 (st .root)) t′ ≡ (counting told andThen outlined)
         unfolding saidOf
         many m =
             let l : 1000000 < total (told .segments) = omega (arith, total-is) in
@@ -137,20 +137,20 @@ module _ (t : List ℤ) (u : Nodes) (st : State) (t′ : List ℤ) (q : folded s
 
         counted : saidOf last t′ ≡ (counting told andThen outlined)
         counted = ⊎-elim
-            (λ m. ap (λ r. saidOf r t′) (sym (too-many (st .gauge .records) (st .gauge .total) (st .root) m)) ∙ many m)
-            (λ m. ap (λ r. saidOf r t′) (sym (few-enough (st .gauge .records) (st .gauge .total) (st .root) m)) ∙ enough m)
-            (lt-or-le 1000000 (st .gauge .total))
+            (λ m. ap (λ r. saidOf r t′) (sym (too-many (st .tally .records) (st .tally .total) (st .root) m)) ∙ many m)
+            (λ m. ap (λ r. saidOf r t′) (sym (few-enough (st .tally .records) (st .tally .total) (st .root) m)) ∙ enough m)
+            (lt-or-le 1000000 (st .tally .total))
 
-      measures : (l : Leaves) → st .gauge .leaves ≡ l → saidOf (addressedBy l last) t′ ≡ (addressing told andThen counting andThen outlined)
+      measures : (l : Leaves) → st .tally .leaves ≡ l → saidOf (addressedBy l last) t′ ≡ (addressing told andThen counting andThen outlined)
       unfolding G.asFault addressedBy saidOf
       measures Never e = let k = sym leaves-are ∙ ap G.asFault e in counted k ∙ sym (keeps told k)
       measures (At p) e = sym (keeps-not told (sym leaves-are ∙ ap G.asFault e))
 
-    judges : (l : Least) → st .judge .least ≡ l → saidOf (ruledBy l (addressedBy (st .gauge .leaves) last)) t′ ≡ ofTree u
+    judges : (l : Least) → st .judge .least ≡ l → saidOf (ruledBy l (addressedBy (st .tally .leaves) last)) t′ ≡ ofTree u
     unfolding J.asFault ruledBy saidOf
     judges Nothing e =
         let k = sym least-is ∙ ap J.asFault e in
-        measures (quiet (elementFaults u) k) (st .gauge .leaves) refl ∙ sym (clean u k)
+        measures (quiet (elementFaults u) k) (st .tally .leaves) refl ∙ sym (clean u k)
     judges (Is f) e = sym (unclean u (sym least-is ∙ ap J.asFault e))
 
     -- Where the table had room for all records, the state at the end settles stages 8 to 12.
@@ -173,7 +173,7 @@ said-front l (Accepted n v) t = ap (λ x. accepted (outline n v x)) (take-swap (
 said-front l (Refused n p) t = refl
 
 -- The state at the end settles stages 8 to 12, and the table holds the rows for which it had room: it is the front of a table with room for all.
-pub settles : (t : List ℤ) (u : Nodes) (st : State) (t′ : List ℤ) → folded st t′ ≡ foldNodes atFirst t u → st .gauge .records ≤ 4096 → saidOf (settledOf st) t′ ≡ (ofTree u andThen inRoom (length t))
+pub settles : (t : List ℤ) (u : Nodes) (st : State) (t′ : List ℤ) → folded st t′ ≡ foldNodes atFirst t u → st .tally .records ≤ 4096 → saidOf (settledOf st) t′ ≡ (ofTree u andThen inRoom (length t))
 settles t u st t′ q few =
     ap (λ (x : List ℤ). saidOf (settledOf st) x) (ap (λ (f : Folded). f .table) same)
     ∙ said-front (length t) (settledOf st) (large .table)
@@ -191,5 +191,5 @@ settles t u st t′ q few =
     whole : folded st (large .table) ≡ foldNodes atFirst longer u
     whole = ap (λ (f : Folded). folded (f .state) (large .table)) same
 
-    enough : 8 * st .gauge .records ≤ length longer
+    enough : 8 * st .tally .records ≤ length longer
     enough = omega (arith, few, length-append t (replicate 32768 (pos 0)), length-replicate 32768 (pos 0))

@@ -1,6 +1,6 @@
 // Stages 4 to 12: what content describes, with its rows in a table of any length.
 
-use pass_reading::read;
+use parse_elements::read;
 use plan_stages::Planned;
 use plan_stages::settled;
 use terms::FIRST_LINE;
@@ -26,12 +26,12 @@ pub fn outline(content: &[u8], rows: &mut [i64]) -> Planned
     }
     let state = reached.state;
     let judge = state.judge;
-    let gauge = state.gauge;
+    let tally = state.tally;
     settled(
         judge.least,
-        gauge.leaves,
-        gauge.records,
-        gauge.total,
-        gauge.root,
+        tally.leaves,
+        tally.records,
+        tally.total,
+        tally.root,
     )
 }

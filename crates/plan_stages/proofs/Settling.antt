@@ -6,9 +6,9 @@ use borrow.Author.Tests.{le-leb, lt-leb, eq-eqb, ne-eqb}
 use Rattle.keys.proofs.Keying.{no-fault, a-fault}
 use Rattle.rules_judge.specs.Judging.{toLeast}
 use Rattle.rules_judge.specs.declared.Least.{Least}
-use Rattle.gauge_tag.specs.declared.Leaves.{Leaves}
+use Rattle.tally_tag.specs.declared.Leaves.{Leaves}
 use Rattle.judges_state.specs.Decoded.{leastIn}
-use Rattle.gauges_state.specs.Flat.{leavesOf}
+use Rattle.tallies_state.specs.Flat.{leavesOf}
 use Rattle.plan_stages.specs.declared.Planned.{Planned}
 use Rattle.plan_stages.specs.declared.Planned.the-variants.{Accepted, Refused}
 use Rattle.plan_stages.specs.Outlines.{countedBy, addressedBy, ruledBy, settledBy}

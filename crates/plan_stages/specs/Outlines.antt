@@ -12,8 +12,8 @@ use Rattle.cdi.specs.Table.{tableOf, recordsOf}
 use Rattle.cdi.specs.Planning.{Description, Counts, markup, elements, addressing, counting, described, placed}
 use Rattle.rules_judge.specs.declared.Least.{Least}
 use Rattle.rules_judge.specs.declared.Least.the-variants.{Nothing, Is}
-use Rattle.gauge_tag.specs.declared.Leaves.{Leaves}
-use Rattle.gauge_tag.specs.declared.Leaves.the-variants.{Never, At}
+use Rattle.tally_tag.specs.declared.Leaves.{Leaves}
+use Rattle.tally_tag.specs.declared.Leaves.the-variants.{Never, At}
 use Rattle.plan_stages.specs.declared.Planned.{Planned}
 use Rattle.plan_stages.specs.declared.Planned.the-variants.{Accepted, Refused}
 

@@ -1,11 +1,11 @@
 // Stages 8 to 12, in their order: each refuses or hands on what the next one says.
 
-use gauges_state::NEVER;
 use keys::NOTHING;
+use tallies_state::NEVER;
 use terms::MOST_VARIABLES;
 ghost use mathlib.Core.Path.{_≡_};
 ghost use Rattle.judges_state.specs.Decoded.{leastIn};
-ghost use Rattle.gauges_state.specs.Flat.{leavesOf};
+ghost use Rattle.tallies_state.specs.Flat.{leavesOf};
 ghost use Rattle.plan_stages.specs.Outlines.{countedBy, addressedBy, ruledBy, settledBy};
 
 // A description's records and variables, or the refusal.

@@ -11,7 +11,7 @@ use lib.IntN.{ℤ}
 use lib.Dec.{eqb}
 use lib.ListN.{length, take, getD}
 use Rattle.scan.proofs.Tests.{lt-or-le}
-use Rattle.cdi.specs.Words.{given}
+use Rattle.cdi.specs.Lists.{given}
 use Rattle.cdi.specs.Tree.{end}
 use Rattle.cdi.specs.Faults.{Fault, fault, Answer, accepted, refused, _andThen_, isAccepted}
 use Rattle.cdi.specs.Text.{zeroFrom, isUtf8}

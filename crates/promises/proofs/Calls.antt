@@ -12,7 +12,7 @@ use lib.IntN.{ℤ}
 use lib.ListN.{length, take, drop, getD, length-take, length-drop}
 use lib.Seq.{take-take, take-append-seam, drop-at, getD-take, getD-drop}
 use Rattle.scan.proofs.Tests.{lt-or-le}
-use Rattle.cdi.specs.Words.{given}
+use Rattle.cdi.specs.Lists.{given}
 use Rattle.cdi.specs.Faults.{fault, accepted, refused}
 use Rattle.cdi.specs.Text.{content}
 use Rattle.cdi.specs.Tree.{end, tree}

@@ -7,7 +7,7 @@ use Prim.Native.Nat.{ℕ, _≤_}
 use native.Mathlib.Omega.{arith}
 use lib.Dec.{eqb, ltb}
 use lib.IntN.{ℤ}
-use Rattle.cdi.specs.Words.{given, any, among}
+use Rattle.cdi.specs.Lists.{given, any, among}
 use Rattle.cdi.specs.Faults.{Fault, fault, unless}
 use Rattle.cdi.specs.Pieces.{Attribute, Piece, start, finish, remark, refer, text, malformed, unsupported}
 use Rattle.cdi.specs.Tree.{Nodes, end, element, other}

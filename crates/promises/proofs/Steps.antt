@@ -11,7 +11,7 @@ use lib.IntN.{ℤ}
 use lib.ListN.{length, take, length-append}
 use lib.Seq.{take-append-le}
 use Rattle.scan.proofs.Tests.{lt-or-le}
-use Rattle.cdi.specs.Words.{begins}
+use Rattle.cdi.specs.Lists.{begins}
 use Rattle.cdi.specs.Faults.{Fault, fault, before, lesser, least, accepted, refused}
 use Rattle.cdi.specs.Text.{zeroFrom, endOf, content, badCharacter, firstLine}
 use Rattle.cdi.specs.Markup.{progress}

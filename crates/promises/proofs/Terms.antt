@@ -9,7 +9,7 @@ use Prim.Native.Nat.{ℕ, _+_, _*_, _≤_, _<_, min}
 use lib.Dec.{ltb}
 use lib.IntN.{ℤ}
 use lib.ListN.{length}
-use Rattle.cdi.specs.Words.{begins}
+use Rattle.cdi.specs.Lists.{begins}
 use Rattle.cdi.specs.Text.{badCharacter, firstLine}
 use Rattle.cdi.specs.Markup.{progress, markupFaults}
 use Rattle.cdi.specs.Tree.{tree}

@@ -6,7 +6,7 @@ use mathlib.Core.Option.{Option, none, some}
 use Prim.Native.Nat.{ℕ}
 use lib.Dec.{leb·suc-zero}
 use lib.IntN.{ℤ, pos, negsuc}
-use Rattle.cdi.specs.Words.{ascii, given, _>>=_, isEmpty, same, among, words-page}
+use Rattle.cdi.specs.Lists.{ascii, given, _>>=_, isEmpty, same, among, lists-page}
 use Rattle.cdi.specs.Faults.{Fault}
 use Rattle.cdi.specs.Pieces.{Attribute}
 use Rattle.cdi.specs.Tree.{Nodes, end, element, other}
@@ -96,7 +96,7 @@ or-true true = refl
 or-true false = refl
 
 int-row : rowAt int ≡ rowOf (ascii "int")
-unfolding words-page rows-page judging-page
+unfolding lists-page rows-page judging-page
 int-row = refl
 
 int-after : (l : Least) (kids : Nodes) → After (fresh l int true) nothingBefore kids (judgeNodes (fresh l int true) kids)

@@ -6,7 +6,7 @@ use mathlib.Core.Option.{Option, none, some}
 use Prim.Native.Nat.{ℕ}
 use lib.Dec.{eqb, leb}
 use lib.IntN.{ℤ}
-use Rattle.cdi.specs.Words.{given, among}
+use Rattle.cdi.specs.Lists.{given, among}
 use Rattle.cdi.specs.Faults.{unless}
 use Rattle.cdi.specs.Pieces.{Attribute, Piece, start, finish, remark, refer, text, malformed, unsupported}
 use Rattle.cdi.specs.Tree.{Nodes, end, element, other}

@@ -5,7 +5,7 @@ use mathlib.Core.Bool.{Bool, true, false, not, _&&_, _||_}
 use mathlib.Core.Option.{Option, none, some}
 use Prim.Native.Nat.{ℕ}
 use lib.Dec.{eqb}
-use Rattle.cdi.specs.Words.{ascii, given, isEmpty, same, among, words-page}
+use Rattle.cdi.specs.Lists.{ascii, given, isEmpty, same, among, lists-page}
 use Rattle.cdi.specs.Pieces.{Attribute, Piece}
 use Rattle.cdi.specs.Tree.{Nodes, end, element, other}
 use Rattle.cdi.specs.Numbers.{bounded}
@@ -28,7 +28,7 @@ abbrev pub int : ℕ
 int = elementNumber (ascii "int")
 
 int-judged : eqb int 24 ≡ false
-unfolding words-page judging-page
+unfolding lists-page judging-page
 int-judged = refl
 
 -- a child of an int that an int's row knows and that holds a number
@@ -38,11 +38,11 @@ record BoundName (w : List ℕ) : Type 0 where
   listed : among w numberNames ≡ true
 
 min-name : BoundName (ascii "min")
-unfolding words-page rows-page judging-page entryOf entryFrom numberNames
+unfolding lists-page rows-page judging-page entryOf entryFrom numberNames
 min-name = record { entry = (3, false); known = refl; listed = refl }
 
 max-name : BoundName (ascii "max")
-unfolding words-page rows-page judging-page entryOf entryFrom numberNames
+unfolding lists-page rows-page judging-page entryOf entryFrom numberNames
 max-name = record { entry = (4, false); known = refl; listed = refl }
 
 -- ── the bounds that the judge keeps ──

@@ -8,7 +8,7 @@ use native.Mathlib.Omega.{arith}
 use borrow.Author.Tests.{not-true}
 use lib.ListN.{getD}
 use lib.Dec.{eqb, leb}
-use Rattle.cdi.specs.Words.{ascii, all, same, among, words-page}
+use Rattle.cdi.specs.Lists.{ascii, all, same, among, lists-page}
 use Rattle.cdi.specs.Faults.{unless}
 use Rattle.cdi.specs.Tree.{Nodes}
 use Rattle.cdi.specs.Rows.{ChildRule, Row, rows, textRow, rowAmong, rowOf, documentRow, rows-page}
@@ -67,7 +67,7 @@ among-listed (r ∷ rs) n h = by (same n (r .name)) refl (among-listed rs n (bot
     by false a others = rw a others
 
 rows-listed : all (λ r. areListed (r .children)) (documentRow ∷ rows) ≡ true
-unfolding words-page rows-page judging-page isListed areListed
+unfolding lists-page rows-page judging-page isListed areListed
 rows-listed = refl
 
 row-listed : (k : ℕ) → areListed (rowAt k .children) ≡ true
@@ -105,7 +105,7 @@ isGood : List ℕ → Bool
 isGood n = leadsBack n && (not (eqb (elementNumber n) 24) && (isNumeric n && isNeedless n))
 
 all-good : all isGood elementNames ≡ true
-unfolding words-page rows-page judging-page isGood leadsBack isNumeric isNeedless numberNames
+unfolding lists-page rows-page judging-page isGood leadsBack isNumeric isNeedless numberNames
 all-good = refl
 
 led-back : (n : List ℕ) → leadsBack n ≡ true → rowAt (elementNumber n) ≡ rowOf n

@@ -5,7 +5,7 @@ use mathlib.Core.Bool.{Bool, true, false, cond, _&&_, _||_}
 use mathlib.Core.Option.{none, some}
 use Prim.Native.Nat.{ℕ}
 use lib.Dec.{eqb}
-use Rattle.cdi.specs.Words.{ascii, same, among, words-page}
+use Rattle.cdi.specs.Lists.{ascii, same, among, lists-page}
 use Rattle.cdi.specs.Faults.{Fault, unless, lesser, least}
 use Rattle.cdi.specs.Pieces.{Attribute, Piece}
 use Rattle.cdi.specs.Tree.{Nodes, end, element, other}
@@ -36,19 +36,19 @@ or-none false = refl
 -- ── a relation's row ──
 
 relation-judged : eqb (elementNumber relation) 24 ≡ false
-unfolding words-page judging-page
+unfolding lists-page judging-page
 relation-judged = refl
 
 relation-entry : (n : List ℕ) → entryOf (rowAt (elementNumber relation)) n ≡ cond (among n property) (some (1, false)) (cond (among n value) (some (2, false)) none)
-unfolding words-page rows-page judging-page entryOf entryFrom
+unfolding lists-page rows-page judging-page entryOf entryFrom
 relation-entry n = refl
 
 relation-missing : (p : ℕ) (kids : Nodes) → missingFaults p (rowOf relation .children) kids ≡ unless (hasChild property kids) (offTable p) ++ (unless (hasChild value kids) (offTable p) ++ [])
-unfolding words-page rows-page missingFaults
+unfolding lists-page rows-page missingFaults
 relation-missing p kids = refl
 
 property-no-value : (n : List ℕ) → among n property ≡ true → among n value ≡ false
-unfolding words-page
+unfolding lists-page
 property-no-value n h = rw (same-equal n (ascii "property") (or-none (same n (ascii "property")) ∙ h))
 
 -- ── what the judge knows after a relation's content ──

@@ -9,7 +9,7 @@ use native.Mathlib.Omega.{arith}
 use borrow.Author.Tests.{eqb-false, le-leb, lt-leb, eq-eqb, ne-eqb}
 use lib.Dec.{eqb, leb}
 use lib.ListN.{getD}
-use Rattle.cdi.specs.Words.{ascii, given, any, same, among, words-page}
+use Rattle.cdi.specs.Lists.{ascii, given, any, same, among, lists-page}
 use Rattle.cdi.specs.Rows.{rows-page}
 use Rattle.cdi.specs.Rules.{entryFrom, entryOf, numberNames, isInt, rules-page}
 use Rattle.cdi.proofs.Quiet.{impossible, same-equal, same-self}
@@ -105,7 +105,7 @@ areMany : ℕ → Bool
 areMany r = all-below 24 (isMany r)
 
 every-many : all-below 12 areMany ≡ true
-unfolding all-below areMany isMany alike words-page rows-page rules-page judging-page tables-page
+unfolding all-below areMany isMany alike lists-page rows-page rules-page judging-page tables-page
 every-many = refl
 
 module _ (r : ℕ) (n : List ℕ) where

@@ -8,7 +8,7 @@ use native.Mathlib.Omega.{arith}
 use native.Mathlib.Decide.{decLe}
 use borrow.Author.Tests.{eqb-true, eqb-false, ltb-false, eq-eqb, ne-eqb}
 use lib.Dec.{eqb, ltb}
-use Rattle.cdi.specs.Words.{any, isEmpty}
+use Rattle.cdi.specs.Lists.{any, isEmpty}
 use Rattle.cdi.specs.Faults.{Fault, unless, before, lesser, least}
 use Rattle.cdi.specs.Rows.{Row}
 use Rattle.cdi.specs.Rules.{Before, nothingBefore, entryOf, childFaults, behind, offTable}

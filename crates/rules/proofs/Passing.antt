@@ -8,7 +8,7 @@ use Prim.Native.Nat.{ℕ}
 use native.Mathlib.Omega.{arith}
 use borrow.Author.Tests.{lt-ltb, le-ltb, eq-eqb, ne-eqb}
 use lib.Dec.{eqb, leb}
-use Rattle.cdi.specs.Words.{isEmpty}
+use Rattle.cdi.specs.Lists.{isEmpty}
 use Rattle.cdi.specs.Faults.{fault, unless}
 use Rattle.cdi.specs.Pieces.{Attribute}
 use Rattle.cdi.specs.Rows.{rowOf}

@@ -5,7 +5,7 @@ use mathlib.Core.Bool.{Bool, true, false, cond, _||_}
 use mathlib.Core.Option.{Option, none, some}
 use Prim.Native.Nat.{ℕ}
 use lib.Dec.{eqb}
-use Rattle.cdi.specs.Words.{given}
+use Rattle.cdi.specs.Lists.{given}
 use Rattle.cdi.specs.Pieces.{Attribute, Piece}
 use Rattle.cdi.specs.Rules.{Before, entryOf, attributeFaults, behind, isInt}
 use Rattle.cdi.specs.Rows.{rowOf}

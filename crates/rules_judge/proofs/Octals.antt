@@ -8,7 +8,7 @@ use borrow.Author.Needs.{needs}
 use borrow.Author.Tests.{eqb-true, lt-ltb, le-ltb}
 use lib.Dec.{eqb}
 use lib.ListN.{length, getD, List·getD-eq-default}
-use Rattle.cdi.specs.Words.{words-page}
+use Rattle.cdi.specs.Lists.{lists-page}
 use Rattle.cdi.specs.Rows.{rows-page}
 use Rattle.cdi.specs.Rules.{rules-page}
 use Rattle.scan.proofs.Tests.{lt-or-le}
@@ -25,11 +25,11 @@ isEntry : ℕ → ℕ → ℕ → ℕ → Bool
 isEntry k m r j = eqb (digitAt (getD rowNumbers (r + k) 0) j) (entryAt (r + k) (j + m))
 
 outer-digits : all-below 6 (λ r. all-below 21 (isEntry 0 0 r)) ≡ true
-unfolding all-below isEntry rowNumbers tableRows octal digitAt words-page rows-page rules-page judging-page tables-page
+unfolding all-below isEntry rowNumbers tableRows octal digitAt lists-page rows-page rules-page judging-page tables-page
 outer-digits = refl
 
 inner-digits : all-below 6 (λ r. all-below 14 (isEntry 6 10 r)) ≡ true
-unfolding all-below isEntry rowNumbers tableRows octal digitAt words-page rows-page rules-page judging-page tables-page
+unfolding all-below isEntry rowNumbers tableRows octal digitAt lists-page rows-page rules-page judging-page tables-page
 inner-digits = refl
 
 entry-is : (k m r j : ℕ) {row child : ℕ} → row ≡ r + k → child ≡ j + m → isEntry k m r j ≡ true → digitAt (getD rowNumbers row 0) j ≡ entryAt row child
@@ -45,11 +45,11 @@ unfolding isNone
 none-is k m r j p q e = rw (p, q) (eqb-true _ _ e)
 
 outer-none : all-below 6 (λ r. all-below 3 (isNone 0 21 r)) ≡ true
-unfolding all-below isNone words-page rows-page rules-page judging-page tables-page
+unfolding all-below isNone lists-page rows-page rules-page judging-page tables-page
 outer-none = refl
 
 inner-none : all-below 6 (λ r. all-below 10 (isNone 6 0 r)) ≡ true
-unfolding all-below isNone words-page rows-page rules-page judging-page tables-page
+unfolding all-below isNone lists-page rows-page rules-page judging-page tables-page
 inner-none = refl
 
 module _ (r : ℕ) where

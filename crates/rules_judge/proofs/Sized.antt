@@ -4,7 +4,7 @@ use mathlib.Core.List.{List, map}
 use mathlib.Core.Bool.{Bool, true, false, cond, _||_}
 use Prim.Native.Nat.{ℕ}
 use lib.Dec.{leb}
-use Rattle.cdi.specs.Words.{ascii, given, any, same, among, words-page}
+use Rattle.cdi.specs.Lists.{ascii, given, any, same, among, lists-page}
 use Rattle.cdi.specs.Pieces.{pieces-page}
 use Rattle.cdi.specs.Numbers.{number, numbers-page}
 use Rattle.cdi.specs.Rows.{intSizes, floatSizes}
@@ -30,7 +30,7 @@ unfolding sizeIn among any floatSizes
 float-size v = by (same v (ascii "1")) refl
   where
     one : among (ascii "1") (map ascii floatSizes) ≡ false
-    one = unfold words-page floatSizes in refl
+    one = unfold lists-page floatSizes in refl
 
     others : (b c d : Bool) → leb 2 (cond b 2 (cond c 4 (cond d 8 0))) ≡ (b || (c || (d || false)))
     others true c d = refl
@@ -48,7 +48,7 @@ says k w h v e = rw (same-equal v w e) h
 
 -- the size of an int with a good size
 pub size-is : (v : List ℕ) → leb 1 (sizeIn v) ≡ true → given (number v) 0 natural ≡ sizeIn v
-unfolding sizeIn natural numbers-page words-page pieces-page
+unfolding sizeIn natural numbers-page lists-page pieces-page
 size-is v h = by (same v (ascii "1")) refl (same v (ascii "2")) refl (same v (ascii "4")) refl (same v (ascii "8")) refl h
   where
     by : (a : Bool) → same v (ascii "1") ≡ a → (b : Bool) → same v (ascii "2") ≡ b → (c : Bool) → same v (ascii "4") ≡ c → (d : Bool) → same v (ascii "8") ≡ d

@@ -9,7 +9,7 @@ use borrow.Author.Needs.{needs}
 use borrow.Author.Tests.{eqb-true, lt-ltb, le-ltb, le-leb, lt-leb, eq-eqb, ne-eqb}
 use lib.Dec.{eqb, leb, ltb}
 use lib.ListN.{length, getD, List·getD-eq-default}
-use Rattle.cdi.specs.Words.{isEmpty, words-page}
+use Rattle.cdi.specs.Lists.{isEmpty, lists-page}
 use Rattle.cdi.specs.Rows.{Row, rowOf, rows-page}
 use Rattle.cdi.specs.Rules.{entryFrom, entryOf, rules-page}
 use Rattle.cdi.proofs.Quiet.{impossible}
@@ -26,11 +26,11 @@ isPlain : Row → Bool
 isPlain r = isEmpty (r .children) && (isEmpty (r .attributes) && r .text)
 
 plain-rows : all-below 24 (λ r. ltb r 12 || isPlain (rowAt r)) ≡ true
-unfolding all-below isPlain words-page rows-page judging-page
+unfolding all-below isPlain lists-page rows-page judging-page
 plain-rows = refl
 
 plain-nothing : isPlain (rowOf []) ≡ true
-unfolding isPlain words-page rows-page
+unfolding isPlain lists-page rows-page
 plain-nothing = refl
 
 plain : (r : ℕ) → 12 ≤ r → isPlain (rowAt r) ≡ true
@@ -76,7 +76,7 @@ module _ (r : ℕ) (h : 12 ≤ r) where
   none-many = rw no-children
 
 textless-rows : all-below 12 (λ r. not (rowAt r .text)) ≡ true
-unfolding all-below words-page rows-page judging-page
+unfolding all-below lists-page rows-page judging-page
 textless-rows = refl
 
 pub text-held : (r : ℕ) → leb 12 r ≡ rowAt r .text
@@ -100,7 +100,7 @@ isSeveral : ℕ → Bool
 isSeveral r = eqb (getD several r 0) (manyAt r)
 
 several-rows : all-below 12 isSeveral ≡ true
-unfolding all-below isSeveral several words-page rows-page judging-page tables-page
+unfolding all-below isSeveral several lists-page rows-page judging-page tables-page
 several-rows = refl
 
 pub several-there : (r : ℕ) {v : ℕ} → r < 12 → v ≡ getD several r 0 → v ≡ manyAt r
@@ -142,7 +142,7 @@ RowRules : ℕ → Type 0
 RowRules e = rowAt e .attributes ≡ ruleOf (ruleAt e 0) ++ (ruleOf (ruleAt e 1) ++ ruleOf (ruleAt e 2))
 
 row-rules-below : Below RowRules 12
-unfolding Below RowRules words-page rows-page judging-page tables-page
+unfolding Below RowRules lists-page rows-page judging-page tables-page
 row-rules-below = (refl, (refl, (refl, (refl, (refl, (refl, (refl, (refl, (refl, (refl, (refl, (refl, tt))))))))))))
 
 pub row-rules : (e : ℕ) → rowAt e .attributes ≡ ruleOf (ruleAt e 0) ++ (ruleOf (ruleAt e 1) ++ ruleOf (ruleAt e 2))

@@ -7,7 +7,7 @@ use lib.IntN.{ℤ, pos, natAbs}
 use lib.ListN.{getD}
 use lib.Dec.{eqb, leb, ltb}
 use lib.Signed.{leZ, ltZ}
-use Rattle.cdi.specs.Words.{ascii, given, isEmpty, same, among}
+use Rattle.cdi.specs.Lists.{ascii, given, isEmpty, same, among}
 use Rattle.cdi.specs.Faults as F
 use Rattle.cdi.specs.Faults.{unless, lesser, least}
 use Rattle.cdi.specs.Pieces.{Attribute, Piece, start, finish, remark, refer, text, malformed, unsupported}

@@ -3,7 +3,7 @@ use mathlib.Core.List.{List, []}
 use mathlib.Core.Bool.{Bool, cond, not, _&&_, _||_}
 use Prim.Native.Nat.{ℕ, max}
 use lib.Dec.{eqb, leb}
-use Rattle.cdi.specs.Words.{isEmpty}
+use Rattle.cdi.specs.Lists.{isEmpty}
 use Rattle.cdi.specs.Faults.{Fault, unless}
 use Rattle.cdi.specs.Pieces.{Attribute}
 use Rattle.cdi.specs.Rules.{offTable}

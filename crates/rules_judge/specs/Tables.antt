@@ -5,7 +5,7 @@ use Prim.Native.Nat.{ℕ, _+_, _-_}
 use lib.Dec.{eqb, ltb}
 use lib.IntN.{pos}
 use lib.ListN.{getD}
-use Rattle.cdi.specs.Words.{ascii, given, same}
+use Rattle.cdi.specs.Lists.{ascii, given, same}
 use Rattle.cdi.specs.Pieces.{Attribute}
 use Rattle.cdi.specs.Rows.{Form, fixed, range, size, formatting, AttributeRule, ChildRule, required, optional, byteRange, offset, intSizes, floatSizes}
 use Rattle.cdi.specs.Rules.{entryOf, sizeText}

@@ -8,7 +8,7 @@ use native.Mathlib.Omega.{arith}
 use borrow.Author.Needs.{needs}
 use lib.ListN.{length, take, drop, getD, drop-of-length-le}
 use lib.Seq.{drop-drop}
-use Rattle.cdi.specs.Words.{while, after}
+use Rattle.cdi.specs.Lists.{while, after}
 use Rattle.scan.specs.Spans.{ofClass, spanEnd, Span}
 use Rattle.scan.specs.declared.Class.{Class}
 use Rattle.scan.proofs.Along.{drop-next, part}

@@ -9,7 +9,7 @@ use borrow.Author.Needs.{needs}
 use borrow.Author.Tests.{eq-eqb, ne-eqb}
 use lib.Dec.{eqb}
 use lib.ListN.{length, drop, getD, drop-of-length-le}
-use Rattle.cdi.specs.Words.{any, same, begins}
+use Rattle.cdi.specs.Lists.{any, same, begins}
 use Rattle.cdi.proofs.Quiet.{impossible}
 use Rattle.cdi.proofs.Tests.{both-right}
 use Rattle.scan.proofs.Along.{drop-next}

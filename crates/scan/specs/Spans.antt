@@ -4,7 +4,7 @@ use mathlib.Core.List.{List}
 use mathlib.Core.Bool.{Bool}
 use Prim.Native.Nat.{ℕ, _+_, _≤_}
 use lib.ListN.{length, drop}
-use Rattle.cdi.specs.Words.{while}
+use Rattle.cdi.specs.Lists.{while}
 use Rattle.cdi.specs.Pieces.{blank, digit, nameByte, isText, hexDigit, valueByte}
 use Rattle.scan.specs.declared.Class.{Class}
 use Rattle.scan.specs.declared.Class.the-variants.{Blank, Name, Text, Decimal, Hexadecimal, Value}

@@ -5,7 +5,7 @@ ghost use mathlib.Core.Path.{_≡_};
 ghost use Prim.Native.Nat.{_≤_};
 ghost use lib.ListN.{length, getD, drop};
 ghost use lib.Dec.{eqb};
-ghost use Rattle.cdi.specs.Words.{any, same as sameBytes, begins, between};
+ghost use Rattle.cdi.specs.Lists.{any, same as sameBytes, begins, between};
 ghost use Rattle.cdi.specs.Pieces.{blank, digit, nameStart, nameByte, isText, hexDigit, valueByte};
 ghost use Rattle.scan.specs.Spans.{ofClass, Span};
 

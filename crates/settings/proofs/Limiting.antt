@@ -7,7 +7,7 @@ use Prim.Native.Nat.{ℕ}
 use borrow.Author.Needs.{needs}
 use lib.IntN.{ℤ, pos}
 use lib.Signed.{ltZ}
-use Rattle.cdi.specs.Words.{given, _>>=_, same}
+use Rattle.cdi.specs.Lists.{given, _>>=_, same}
 use Rattle.cdi.specs.Tree.{Nodes, end, element, other}
 use Rattle.cdi.specs.Rules.{ownText, ownNumber, Bound, boundOf, isSigned}
 use Rattle.cdi.specs.Access.{childOf}

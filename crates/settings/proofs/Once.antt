@@ -5,7 +5,7 @@ use mathlib.Core.Bool.{Bool, true}
 use mathlib.Core.Option.{Option}
 use Prim.Native.Nat.{ℕ}
 use lib.IntN.{ℤ}
-use Rattle.cdi.specs.Words.{ascii, given, any}
+use Rattle.cdi.specs.Lists.{ascii, given, any}
 use Rattle.cdi.specs.Tree.{Nodes}
 use Rattle.cdi.specs.Numbers.{within}
 use Rattle.cdi.specs.Rules.{boundOf, isSigned, boundsOf}

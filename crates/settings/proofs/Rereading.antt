@@ -11,7 +11,7 @@ use borrow.Author.Tests.{eqb-true}
 use lib.Dec.{eqb}
 use lib.ListN.{length, drop, getD}
 use lib.Seq.{drop-cons, drop-drop}
-use Rattle.cdi.specs.Words.{isSome}
+use Rattle.cdi.specs.Lists.{isSome}
 use Rattle.cdi.specs.Pieces.{Attribute, Piece, start, finish, remark, refer, text, malformed, unsupported, pieceAt, pieces}
 use Rattle.cdi.specs.Tree.{Nodes, end, element, grow, levels, top, tree}
 use Rattle.cdi.specs.Access.{contentAt}

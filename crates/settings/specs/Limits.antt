@@ -4,7 +4,7 @@ use mathlib.Core.Bool.{Bool, false}
 use mathlib.Core.Option.{Option}
 use Prim.Native.Nat.{ℕ}
 use lib.IntN.{ℤ, pos}
-use Rattle.cdi.specs.Words.{_>>=_}
+use Rattle.cdi.specs.Lists.{_>>=_}
 use Rattle.cdi.specs.Tree.{Nodes}
 use Rattle.cdi.specs.Rules.{ownNumber, largest}
 use Rattle.cdi.specs.Access.{childOf}

@@ -3,14 +3,14 @@
 use children::Part;
 use children::content_of;
 use children::part_of;
+use contents::own_number;
 use numbers::Number;
 use pieces::piece_at;
-use words::own_number;
 ghost use mathlib.Core.Path.{_≡_};
 ghost use mathlib.Core.Bool.{true};
 ghost use Prim.Native.Nat.{_≤_, _<_};
 ghost use lib.ListN.{length};
-ghost use Rattle.cdi.specs.Words.{isSome};
+ghost use Rattle.cdi.specs.Lists.{isSome};
 ghost use Rattle.cdi.specs.Access.{contentAt, childOf};
 ghost use Rattle.numbers.specs.Held.{numberOf};
 ghost use Rattle.levels.specs.Ahead.{here};

@@ -6,7 +6,7 @@ use maps::is_listed;
 use settings::child_in;
 ghost use mathlib.Core.Path.{_≡_};
 ghost use mathlib.Core.Bool.{true};
-ghost use Rattle.cdi.specs.Words.{ascii, given, any};
+ghost use Rattle.cdi.specs.Lists.{ascii, given, any};
 ghost use Rattle.cdi.specs.Access.{childOf, properties, hasMap, equals};
 ghost use Rattle.children.specs.Siblings.{Inside};
 ghost use Rattle.maps.specs.Matches.{wantedOf};

@@ -12,7 +12,7 @@ use lib.IntN.{ℤ, pos, negsuc}
 use lib.Signed.{leZ, ltZ}
 use mir.Syntax.{w64}
 use mir.Val.{Fits}
-use Rattle.cdi.specs.Words.{ascii, given}
+use Rattle.cdi.specs.Lists.{ascii, given}
 use Rattle.cdi.specs.Numbers.{within}
 use Rattle.cdi.specs.Rules.{boundOf, isSigned, largest, boundsOf}
 use Rattle.cdi.specs.Values.{withSign}

@@ -9,7 +9,7 @@ use rules_bounds::range_of;
 use settings::child_number;
 ghost use mathlib.Core.Path.{_≡_};
 ghost use Prim.Native.Nat.{_≤_};
-ghost use Rattle.cdi.specs.Words.{ascii};
+ghost use Rattle.cdi.specs.Lists.{ascii};
 ghost use Rattle.cdi.specs.Numbers.{within};
 ghost use Rattle.cdi.specs.Rules.{boundOf, isSigned, largest, boundsOf};
 ghost use Rattle.cdi.specs.Values.{withSign};

@@ -5,7 +5,7 @@ use mathlib.Core.Bool.{Bool}
 use Prim.Native.Nat.{ℕ, _-_}
 use lib.Dec.{eqb}
 use lib.ListN.{take, drop}
-use Rattle.cdi.specs.Words.{any}
+use Rattle.cdi.specs.Lists.{any}
 use Rattle.cdi.specs.Pieces.{valueByte}
 use Rattle.scan.specs.Spans.{Span}
 use Rattle.scan.proofs.Once.{span-once}

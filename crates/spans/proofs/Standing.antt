@@ -6,7 +6,7 @@ use Prim.Native.Nat.{ℕ, _≤_, _<_}
 use borrow.Author.Needs.{needs}
 use lib.Dec.{eqb}
 use lib.ListN.{length, drop, getD, drop-of-length-le}
-use Rattle.cdi.specs.Words.{begins}
+use Rattle.cdi.specs.Lists.{begins}
 use Rattle.scan.proofs.Along.{drop-next}
 
 module _ (s : List ℕ) (at b : ℕ) where

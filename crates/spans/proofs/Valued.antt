@@ -6,7 +6,7 @@ use Prim.Native.Nat.{ℕ, _+_, _-_, _≤_, _<_}
 use borrow.Author.Needs.{needs}
 use lib.Dec.{eqb}
 use lib.ListN.{length, take, drop, getD, drop-of-length-le}
-use Rattle.cdi.specs.Words.{any, while}
+use Rattle.cdi.specs.Lists.{any, while}
 use Rattle.scan.proofs.Along.{drop-next}
 use Rattle.scan.proofs.Spans.{Spanning, start, out, stops, goes, span-here}
 

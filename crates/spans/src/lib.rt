@@ -8,7 +8,7 @@ ghost use mathlib.Core.List.{[], _∷_};
 ghost use Prim.Native.Nat.{_-_, _≤_};
 ghost use lib.Dec.{eqb};
 ghost use lib.ListN.{length, take, drop};
-ghost use Rattle.cdi.specs.Words.{any, begins};
+ghost use Rattle.cdi.specs.Lists.{any, begins};
 ghost use Rattle.cdi.specs.Pieces.{blank, valueByte};
 ghost use Rattle.scan.specs.Spans.{ofClass, Span};
 ghost use Rattle.scan.specs.declared.Class.the-variants.{Name, Value};

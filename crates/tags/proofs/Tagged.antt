@@ -11,7 +11,7 @@ use borrow.Author.Tests.{eq-eqb, ne-eqb, eqb-true}
 use lib.Dec.{eqb}
 use lib.ListN.{length, drop, getD, drop-of-length-le, List·getD-eq-default}
 use lib.Seq.{drop-drop}
-use Rattle.cdi.specs.Words.{any, all, same, begins, isEmpty, after, words-page}
+use Rattle.cdi.specs.Lists.{any, all, same, begins, isEmpty, after, lists-page}
 use Rattle.cdi.specs.Faults.{least}
 use Rattle.cdi.specs.Pieces.{Attribute, blank, attributes, tagEnd, bears, twice}
 use Rattle.cdi.specs.Markup.{refers}
@@ -26,7 +26,7 @@ use Rattle.pieces_cuts.specs.Places.{closing, Closes}
 use Rattle.rules_judge.specs.Tables as T
 use Rattle.rules_judge.specs.Tables.{tables-page}
 use Rattle.rules_judge.proofs.Below.{all-below, below}
-use Rattle.gauge_tag.specs.Numbered.{numbersBy}
+use Rattle.tally_tag.specs.Numbered.{numbersBy}
 use Rattle.tags_values.specs.Codes.{amountFor, numbered, codeIn}
 use Rattle.tags_cells.specs.Cells.{hasOne, knownTwice, Fresh}
 use Rattle.tags_faults.specs.Told.{faultBy, Coded, faultsAt, told-page}
@@ -239,9 +239,9 @@ module _ (s : List ℕ) (n e : ℕ) {a : Bool} (w : a ≡ begins (62 ∷ []) (dr
     none′ = λ q. absurd (omega arith);
     refer = λ q. unfold refers any in rw no-attributes;
     alone = λ q. unfold isEmpty in rw no-attributes;
-    told = λ q p. ap (λ (xs : List Attribute). least (attributeFaults p (Rattle.rules_judge.specs.Judging.rowAt e) xs)) no-attributes ∙ told e p {codes = []} {exact = 1} {t = true} [] none-coded (unfold words-page tables-page sizeText attributeValue in refl) (unfold all in refl) ∙ ap (λ (m : ℕ). least (faultsAt p m)) (sym x);
+    told = λ q p. ap (λ (xs : List Attribute). least (attributeFaults p (Rattle.rules_judge.specs.Judging.rowAt e) xs)) no-attributes ∙ told e p {codes = []} {exact = 1} {t = true} [] none-coded (unfold lists-page tables-page sizeText attributeValue in refl) (unfold all in refl) ∙ ap (λ (m : ℕ). least (faultsAt p m)) (sym x);
     small = omega (arith, x, fault-small e {codes = []} 1 true [] none-coded);
-    size = λ q. unfold words-page tables-page sizeText attributeValue in rw no-attributes;
+    size = λ q. unfold lists-page tables-page sizeText attributeValue in rw no-attributes;
     numbers = λ q. rw no-attributes y;
     bounded = λ q. b;
   }

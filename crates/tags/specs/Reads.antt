@@ -7,7 +7,7 @@ use Prim.Native.Nat.{ℕ, _≤_, _<_}
 use lib.Dec.{eqb}
 use lib.IntN.{pos}
 use lib.ListN.{length, drop}
-use Rattle.cdi.specs.Words.{isEmpty, after}
+use Rattle.cdi.specs.Lists.{isEmpty, after}
 use Rattle.cdi.specs.Faults.{least}
 use Rattle.cdi.specs.Pieces.{blank, attributes, tagEnd, twice}
 use Rattle.cdi.specs.Markup.{refers}
@@ -15,7 +15,7 @@ use Rattle.cdi.specs.Rules.{attributeFaults}
 use Rattle.pieces_cuts.specs.Places.{closing}
 use Rattle.rules_judge.specs.Judging.{rowAt}
 use Rattle.rules_judge.specs.Tables.{intSize}
-use Rattle.gauge_tag.specs.Numbered.{numbersBy}
+use Rattle.tally_tag.specs.Numbered.{numbersBy}
 use Rattle.tags_faults.specs.Told.{faultsAt}
 use Rattle.tags_numbers.specs.Given.{givenBy, Bounded}
 use Rattle.tags.specs.declared.Tag.{Tag}

@@ -15,7 +15,7 @@ ghost use mathlib.Core.List.{[]};
 ghost use mathlib.Core.Bool.{true};
 ghost use Prim.Native.Nat.{_≤_};
 ghost use lib.ListN.{length, drop};
-ghost use Rattle.cdi.specs.Words.{any};
+ghost use Rattle.cdi.specs.Lists.{any};
 ghost use Rattle.cdi.specs.Pieces.{attributes, twice};
 ghost use Rattle.tags_cells.specs.Cells.{hasOne, knownTwice};
 ghost use Rattle.tags_faults.specs.Told.{faultBy};

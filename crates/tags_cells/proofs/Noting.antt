@@ -9,7 +9,7 @@ use borrow.Author.Needs.{needs}
 use borrow.Author.Tests.{ne-eqb}
 use lib.Dec.{eqb}
 use lib.ListN.{length, getD, set}
-use Rattle.cdi.specs.Words.{ascii, same, words-page}
+use Rattle.cdi.specs.Lists.{ascii, same, lists-page}
 use Rattle.cdi.proofs.Quiet.{impossible, same-equal}
 use Rattle.scan.proofs.Tests.{eq-or-ne}
 use Rattle.rules_judge.specs.Tables.{sizeIn}
@@ -36,7 +36,7 @@ module _ (v : List ℕ) where
   not-one h = rw (other-length v (ascii "1") h, other-length v (ascii "2") h, other-length v (ascii "4") h, other-length v (ascii "8") h)
 
   one : length v ≡ 1 → sizeIn v ≡ cond (eqb (getD v 0 0) 49) 1 (cond (eqb (getD v 0 0) 50) 2 (cond (eqb (getD v 0 0) 52) 4 (cond (eqb (getD v 0 0) 56) 8 0)))
-  unfolding sizeIn words-page
+  unfolding sizeIn lists-page
   one = by v
     where
       by : (v : List ℕ) → length v ≡ 1 → sizeIn v ≡ cond (eqb (getD v 0 0) 49) 1 (cond (eqb (getD v 0 0) 50) 2 (cond (eqb (getD v 0 0) 52) 4 (cond (eqb (getD v 0 0) 56) 8 0)))

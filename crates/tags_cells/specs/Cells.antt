@@ -5,7 +5,7 @@ use mathlib.Core.Bool.{Bool, false, cond, not, _&&_, _||_}
 use Prim.Native.Nat.{ℕ, _≤_}
 use lib.Dec.{eqb}
 use lib.ListN.{length, getD, set}
-use Rattle.cdi.specs.Words.{any}
+use Rattle.cdi.specs.Lists.{any}
 use Rattle.cdi.specs.Pieces.{Attribute}
 use Rattle.names.specs.Names.{attributeNumber}
 use Rattle.rules_judge.specs.Tables.{sizeIn}

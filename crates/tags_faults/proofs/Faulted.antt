@@ -12,7 +12,7 @@ use lib.Dec.{eqb, ltb, leb}
 use lib.IntN.{ℤ, pos}
 use lib.Signed.{ltZ}
 use lib.ListN.{getD, List·getD-eq-default}
-use Rattle.cdi.specs.Words.{ascii, given, any, all, same, among, words-page}
+use Rattle.cdi.specs.Lists.{ascii, given, any, all, same, among, lists-page}
 use Rattle.cdi.specs.Faults.{Fault, fault, unless, before, lesser, least}
 use Rattle.cdi.specs.Pieces.{Attribute}
 use Rattle.cdi.specs.Numbers.{number, within}
@@ -62,7 +62,7 @@ RuleIs : ℕ → Type 0
 RuleIs j = ruleOf (suc j) ≡ record { name = attributeName (attributeOf (suc j)); required = isRequired (suc j); form = formOf (suc j) } ∷ []
 
 rules-are : Below RuleIs 12
-unfolding Below RuleIs words-page rows-page tables-page
+unfolding Below RuleIs lists-page rows-page tables-page
 rules-are = (refl, (refl, (refl, (refl, (refl, (refl, (refl, (refl, (refl, (refl, (refl, (refl, tt))))))))))))
 
 rule-is : (k : ℕ) → (k ≡ 0 → ⊥) → k ≤ 12 → ruleOf k ≡ record { name = attributeName (attributeOf k); required = isRequired k; form = formOf k } ∷ []
@@ -131,24 +131,24 @@ module _ (p : ℕ) {codes : List ℕ} {exact : ℕ} (s : List Attribute) (w : Co
 
   int-rule : rulesFaults p (ruleOf 10) s ≡ faultsAt p (intBy exact)
   unfolding unless faultsAt intBy intSize sizeText
-  int-rule = sized 10 (λ z. omega arith) (omega arith) (unfold words-page tables-page in refl) ∙ by (attributeValue (ascii "size") s) refl
+  int-rule = sized 10 (λ z. omega arith) (omega arith) (unfold lists-page tables-page in refl) ∙ by (attributeValue (ascii "size") s) refl
     where
       told : (n : ℕ) → unless (leb 1 n) (fault 10 p) ≡ faultsAt p (cond (ltb n 1) 10 0)
       told n = ⊎-elim (λ (h : n < 1). rw (lt-ltb n 1 h, lt-leb 1 n h)) (λ (h : 1 ≤ n). rw (le-ltb n 1 h, le-leb 1 n h)) (lt-or-le n 1)
 
       by : (o : Option (List ℕ)) → attributeValue (ascii "size") s ≡ o → given o (unless (not (isRequired 10)) (fault 8 p)) (formFaults p (formOf 10)) ≡ faultsAt p (cond (ltb exact 1) 10 0)
-      by none e = let q : exact ≡ 1 = x ∙ (unfold tables-page words-page in rw e) in rw q (unfold tables-page in refl)
+      by none e = let q : exact ≡ 1 = x ∙ (unfold tables-page lists-page in rw e) in rw q (unfold tables-page in refl)
       by (some v) e =
           let q : exact ≡ sizeIn v = x ∙ rw e in
           let f : formFaults p (formOf 10) v ≡ unless (leb 1 (sizeIn v)) (fault 10 p) = unfold formFaults rows-page tables-page in rw (int-size v) in
           f ∙ told (sizeIn v) ∙ rw q
 
   size-code : getD codes 9 0 ≡ given (attributeValue (ascii "size") s) 0 (codeOf 9)
-  size-code = w .each 9 (omega arith) (omega arith) ∙ (unfold codeIn words-page tables-page in rw (numbered-named 9 s (omega arith) (omega arith)))
+  size-code = w .each 9 (omega arith) (omega arith) ∙ (unfold codeIn lists-page tables-page in rw (numbered-named 9 s (omega arith) (omega arith)))
 
   float-rule : rulesFaults p (ruleOf 11) s ≡ faultsAt p (floatBy (getD codes 9 0) exact)
   unfolding unless faultsAt floatBy intSize sizeText
-  float-rule = sized 11 (λ z. omega arith) (omega arith) (unfold words-page tables-page in refl) ∙ by (attributeValue (ascii "size") s) refl
+  float-rule = sized 11 (λ z. omega arith) (omega arith) (unfold lists-page tables-page in refl) ∙ by (attributeValue (ascii "size") s) refl
     where
       there : (v : List ℕ) → 1 ≤ codeOf 9 v
       there v = unfold codeOf in form-codes (formOf (ruleFor 9)) v .0

@@ -11,7 +11,7 @@ use borrow.Author.Tests.{eq-eqb, ne-eqb}
 use lib.Dec.{eqb}
 use lib.ListN.{length, drop, getD, set, length-set}
 use lib.Seq.{getD-set-same, getD-set-other}
-use Rattle.cdi.specs.Words.{ascii, any, all, same, words-page}
+use Rattle.cdi.specs.Lists.{ascii, any, all, same, lists-page}
 use Rattle.cdi.specs.Pieces.{Attribute, attributes}
 use Rattle.cdi.specs.Markup.{refers}
 use Rattle.cdi.specs.Rules.{attributeValue, sizeText}
@@ -141,7 +141,7 @@ nothing-noted s {codes} {amounts} f = record {
 
 -- the exact size: that of the first `size`
 size-named : (n : List ℕ) → same (ascii "size") n ≡ eqb (attributeNumber n) 9
-size-named n = unfold words-page tables-page in by-number 9 n (omega arith) (omega arith)
+size-named n = unfold lists-page tables-page in by-number 9 n (omega arith) (omega arith)
 
 front-size : (x : Attribute) (rest : List Attribute) → attributeNumber (x .name) ≡ 9 → intSize (x ∷ rest) ≡ sizeIn (x .value)
 unfolding intSize sizeText attributeValue
@@ -397,7 +397,7 @@ module _ {e at : ℕ} {s : List ℕ} {i : ℕ} {codes amounts : List ℕ} {count
         and-true false = refl
 
         no-size : intSize [] ≡ 1
-        no-size = unfold words-page tables-page sizeText attributeValue in refl
+        no-size = unfold lists-page tables-page sizeText attributeValue in refl
 
         size : cond (eqb (getD codes 9 0) 0) (intSize (attributes 0 (drop i s))) exact ≡ exact
         size = ⊎-elim

@@ -3,7 +3,7 @@ use mathlib.Core.Path.{_≡_}
 use mathlib.Core.List.{List}
 use Prim.Native.Nat.{ℕ}
 use lib.ListN.{length}
-use Rattle.cdi.specs.Words.{any, all}
+use Rattle.cdi.specs.Lists.{any, all}
 use Rattle.cdi.specs.Pieces.{Attribute}
 use Rattle.cdi.specs.Markup.{refers}
 use Rattle.rules_judge.specs.Tables.{ruleAt, attributeOf, hasNumber, intSize}

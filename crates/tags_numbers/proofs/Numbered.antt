@@ -1,4 +1,4 @@
--- The numbers of a tag: by the codes and the amounts of its attributes they are those that the gauge speaks of, and they lie in their ranges.
+-- The numbers of a tag: by the codes and the amounts of its attributes they are those that the tally speaks of, and they lie in their ranges.
 use mathlib.Core.Path.{_≡_, refl, sym, _∙_}
 use mathlib.Core.List.{List, []}
 use mathlib.Core.Bool.{Bool, true, false, cond, _&&_}
@@ -15,7 +15,7 @@ use lib.Signed.{ltZ}
 use mir.Syntax.{w64}
 use mir.Val.{SFits, toZ}
 use mir.ValLaws.{toZ-pos}
-use Rattle.cdi.specs.Words.{ascii, _>>=_, given, between, words-page}
+use Rattle.cdi.specs.Lists.{ascii, _>>=_, given, between, lists-page}
 use Rattle.cdi.specs.Pieces.{Attribute}
 use Rattle.cdi.specs.Numbers.{number, within}
 use Rattle.cdi.specs.Rows.{rows-page}
@@ -28,10 +28,10 @@ use Rattle.rules_judge.specs.Tables.{tables-page}
 use Rattle.tags_values.specs.Codes.{rangeCode, rangeAmount, codeIn, amountIn, Celled, codes-page}
 use Rattle.tags_values.proofs.Numbered.{numbered-named}
 use Rattle.extent.proofs.Signed.{read, read-is}
-use Rattle.gauge_tag.specs.declared.Numbers.{Numbers}
-use Rattle.gauge_tag.specs.Gauging.{from-to}
-use Rattle.gauge_tag.specs.Numbered.{Ranged, naturalIn, offsetIn, sizeBy, numbersBy}
-use Rattle.gauge_tag.proofs.Attributes.{numbers-ranged, size-eventid, size-other, bare-are, bare-eventid, bare-other, minus-fits, minus-is, plain-is}
+use Rattle.tally_tag.specs.declared.Numbers.{Numbers}
+use Rattle.tally_tag.specs.Gauging.{from-to}
+use Rattle.tally_tag.specs.Numbered.{Ranged, naturalIn, offsetIn, sizeBy, numbersBy}
+use Rattle.tally_tag.proofs.Attributes.{numbers-ranged, size-eventid, size-other, bare-are, bare-eventid, bare-other, minus-fits, minus-is, plain-is}
 use Rattle.tags_numbers.specs.declared.Given.{Given}
 use Rattle.tags_numbers.specs.Given.{offsetBy, givenIn, givenBy, Cells, Bounded}
 
@@ -54,7 +54,7 @@ module _ (lo hi : ℕ) where
       by zero = same-ends (leb 0 0 && leb 0 hi) 0
       by (suc n) = rw (lt-leb (suc n) 0 (omega arith))
 
-  -- an amount by its attribute's value is the number that the gauge speaks of
+  -- an amount by its attribute's value is the number that the tally speaks of
   amount-natural : (o : Option (List ℕ)) → given o lo (λ v. rangeAmount lo (pos lo) (pos hi) (number v)) ≡ from-to lo hi lo (natural (given (o >>= number) (pos lo) (λ y. y)))
   unfolding rangeAmount from-to natural
   amount-natural none = same-ends (between lo hi lo) lo
@@ -73,23 +73,23 @@ signed-is (negsuc k) true = refl
 
 module _ (s : List Attribute) where
   pub space-in : amountIn 5 s ≡ naturalIn 0 255 (ascii "space") s
-  unfolding words-page tables-page codes-page naturalIn numberOr
+  unfolding lists-page tables-page codes-page naturalIn numberOr
   space-in = rw (numbered-named 5 s (omega arith) (omega arith)) (amount-natural 0 255 (attributeValue (ascii "space") s))
 
   pub origin-in : amountIn 6 s ≡ naturalIn 0 2147483647 (ascii "origin") s
-  unfolding words-page tables-page codes-page naturalIn numberOr
+  unfolding lists-page tables-page codes-page naturalIn numberOr
   origin-in = rw (numbered-named 6 s (omega arith) (omega arith)) (amount-natural 0 2147483647 (attributeValue (ascii "origin") s))
 
   pub copies-in : amountIn 7 s ≡ naturalIn 1 2147483647 (ascii "replication") s
-  unfolding words-page tables-page codes-page naturalIn numberOr
+  unfolding lists-page tables-page codes-page naturalIn numberOr
   copies-in = rw (numbered-named 7 s (omega arith) (omega arith)) (amount-natural 1 2147483647 (attributeValue (ascii "replication") s))
 
   pub size-in : amountIn 9 s ≡ naturalIn 1 65535 (ascii "size") s
-  unfolding words-page tables-page codes-page naturalIn numberOr
+  unfolding lists-page tables-page codes-page naturalIn numberOr
   size-in = rw (numbered-named 9 s (omega arith) (omega arith)) (amount-natural 1 65535 (attributeValue (ascii "size") s))
 
   pub offset-in : offsetBy (codeIn 8 s) (amountIn 8 s) ≡ offsetIn s
-  unfolding words-page tables-page rows-page codes-page offsetIn offsetOf numberOr offsetFits
+  unfolding lists-page tables-page rows-page codes-page offsetIn offsetOf numberOr offsetFits
   offset-in = rw (numbered-named 8 s (omega arith) (omega arith)) (by (attributeValue (ascii "offset") s))
     where
       lo : ℤ

@@ -7,7 +7,7 @@ use lib.Dec.{eqb}
 use lib.IntN.{ℤ, pos, negℤ}
 use lib.ListN.{getD}
 use Rattle.cdi.specs.Rules.{natural}
-use Rattle.gauge_tag.specs.declared.Numbers.{Numbers}
+use Rattle.tally_tag.specs.declared.Numbers.{Numbers}
 use Rattle.tags_numbers.specs.declared.Given.{Given}
 
 -- ── by codes and amounts ──
@@ -25,7 +25,7 @@ givenIn e codes amounts =
       copies = getD amounts 7 0;
     }
 
--- ── by the numbers that the gauge speaks of ──
+-- ── by the numbers that the tally speaks of ──
 
 unfoldable pub givenBy : ℕ → Numbers → Given
 givenBy e m =

@@ -5,7 +5,7 @@ ghost use mathlib.Core.List.{[]};
 ghost use mathlib.Core.Bool.{cond};
 ghost use Prim.Native.Nat.{_≤_};
 ghost use lib.Dec.{eqb};
-ghost use Rattle.gauge_tag.specs.Numbered.{numbersBy};
+ghost use Rattle.tally_tag.specs.Numbered.{numbersBy};
 ghost use Rattle.tags_numbers.specs.Given.{Cells, Bounded, offsetBy, givenIn, givenBy};
 
 // A segment's origin and space, or the offset and the size of any other element; and the replication.

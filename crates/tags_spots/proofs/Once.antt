@@ -5,7 +5,7 @@ use mathlib.Core.Bool.{Bool}
 use mathlib.Core.Logic.{⊎-elim}
 use Prim.Native.Nat.{ℕ}
 use lib.Dec.{eqb}
-use Rattle.cdi.specs.Words.{any}
+use Rattle.cdi.specs.Lists.{any}
 use Rattle.names.specs.Names.{attributeNumber}
 use Rattle.scan.proofs.Tests.{eq-or-ne}
 use Rattle.pieces_cuts.specs.Places.{part, Next}

@@ -7,7 +7,7 @@ use native.Mathlib.Omega.{arith}
 use borrow.Author.Needs.{needs}
 use lib.Dec.{eqb}
 use lib.ListN.{take, drop}
-use Rattle.cdi.specs.Words.{any}
+use Rattle.cdi.specs.Lists.{any}
 use Rattle.cdi.specs.Pieces.{blank, valueByte}
 use Rattle.scan.specs.Spans.{ofClass, Span}
 use Rattle.scan.specs.declared.Class.the-variants.{Blank, Value}

@@ -9,7 +9,7 @@ use native.Mathlib.Omega.{arith}
 use borrow.Author.Needs.{needs}
 use borrow.Author.Tests.{lt-ltb, le-ltb, eq-eqb, ne-eqb}
 use lib.IntN.{ℤ}
-use Rattle.cdi.specs.Words.{ascii, same, words-page}
+use Rattle.cdi.specs.Lists.{ascii, same, lists-page}
 use Rattle.cdi.specs.Numbers.{number, within}
 use Rattle.cdi.specs.Rows.{range, rows-page}
 use Rattle.cdi.specs.Rules.{isFormatting}
@@ -43,7 +43,7 @@ RangeFor : ℕ → Type 0
 RangeFor i = formOf (ruleFor (i + 3)) ≡ range (lowAt (i + 3)) (highAt (i + 3))
 
 ranges-for : Below RangeFor 7
-unfolding Below RangeFor words-page rows-page tables-page codes-page
+unfolding Below RangeFor lists-page rows-page tables-page codes-page
 ranges-for = (refl, (refl, (refl, (refl, (refl, (refl, (refl, tt)))))))
 
 range-for : (a : ℕ) → a ≤ 10 → textual a ≡ false → formOf (ruleFor a) ≡ range (lowAt a) (highAt a)
@@ -121,11 +121,11 @@ pub ruleset number-codes = (no-number, no-amount, good-code, good-amount, bad-co
 
 module _ (a : ℕ) (v : List ℕ) {r : Bool} where
   pub first-text : a ≡ 1 → r ≡ same v (ascii "http://www.w3.org/2001/XMLSchema-instance") → codeOf a v ≡ cond r 1 8
-  unfolding words-page rows-page tables-page codes-page
+  unfolding lists-page rows-page tables-page codes-page
   first-text e f = rw (e, f)
 
   pub second-text : a ≡ 2 → r ≡ same v (ascii "http://openlcb.org/schema/cdi/1/3/cdi.xsd") → codeOf a v ≡ cond r 1 8
-  unfolding words-page rows-page tables-page codes-page
+  unfolding lists-page rows-page tables-page codes-page
   second-text e f = rw (e, f)
 
   pub third-text : 1 ≤ a → textual a ≡ true → (a ≡ 1 → ⊥) → (a ≡ 2 → ⊥) → r ≡ isFormatting v → codeOf a v ≡ cond r 1 8

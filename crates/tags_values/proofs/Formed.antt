@@ -7,7 +7,7 @@ use Prim.Native.Nat.{ℕ, _≤_, _<_}
 use native.Mathlib.Omega.{arith}
 use lib.IntN.{ℤ, pos}
 use lib.Signed.{ltZ}
-use Rattle.cdi.specs.Words.{ascii, given, same, among}
+use Rattle.cdi.specs.Lists.{ascii, given, same, among}
 use Rattle.cdi.specs.Pieces.{Attribute}
 use Rattle.cdi.specs.Numbers.{number, within}
 use Rattle.cdi.specs.Rows.{Form, fixed, range, size, formatting}

@@ -8,7 +8,7 @@ use native.Mathlib.Omega.{arith}
 use borrow.Author.Tests.{eq-eqb, ne-eqb}
 use lib.Dec.{eqb}
 use lib.ListN.{getD}
-use Rattle.cdi.specs.Words.{same, words-page}
+use Rattle.cdi.specs.Lists.{same, lists-page}
 use Rattle.cdi.specs.Pieces.{Attribute}
 use Rattle.cdi.specs.Rules.{attributeValue}
 use Rattle.cdi.proofs.Quiet.{same-self, same-equal}
@@ -23,7 +23,7 @@ NameIs : ℕ → Type 0
 NameIs j = attributeName (j + 1) ≡ getD attributeNames j []
 
 names-are : Below NameIs 10
-unfolding Below NameIs words-page tables-page attributeNames
+unfolding Below NameIs lists-page tables-page attributeNames
 names-are = (refl, (refl, (refl, (refl, (refl, (refl, (refl, (refl, (refl, (refl, tt))))))))))
 
 -- a name is told by its number

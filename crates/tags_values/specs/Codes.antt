@@ -8,7 +8,7 @@ use lib.Dec.{eqb, ltb}
 use lib.ListN.{getD}
 use lib.IntN.{ℤ, pos, negℤ, natAbs}
 use lib.Signed.{ltZ}
-use Rattle.cdi.specs.Words.{ascii, given, same, among}
+use Rattle.cdi.specs.Lists.{ascii, given, same, among}
 use Rattle.cdi.specs.Faults.{Fault, fault}
 use Rattle.cdi.specs.Pieces.{Attribute}
 use Rattle.cdi.specs.Numbers.{number, within}

@@ -11,7 +11,7 @@ use text_runs::starts_run;
 ghost use mathlib.Core.Path.{_≡_};
 ghost use Prim.Native.Nat.{_≤_, min};
 ghost use lib.ListN.{length, drop};
-ghost use Rattle.cdi.specs.Words.{begins};
+ghost use Rattle.cdi.specs.Lists.{begins};
 ghost use Rattle.cdi.specs.Text.{characterAt, badFrom, allowed, mark, badCharacter, isUtf8, firstLine};
 ghost use Rattle.text.specs.Answers.{endAnswer, endIn, ending, Known, placeOf, ofSet};
 ghost use Rattle.text_runs.specs.Runs.{plain, nonzero, AllOf};

@@ -2,7 +2,7 @@
 use mathlib.Core.Bool.{Bool, cond}
 use mathlib.Core.Option.{Option, none, some}
 use Prim.Native.Nat.{ℕ}
-use Rattle.cdi.specs.Words.{given}
+use Rattle.cdi.specs.Lists.{given}
 use Rattle.cdi.specs.Text.{Character as Decoded}
 use Rattle.text_characters.specs.declared.Character.{Character}
 use Rattle.text_characters.specs.declared.Character.the-variants as character

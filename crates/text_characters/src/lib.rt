@@ -6,7 +6,7 @@ ghost use mathlib.Core.List.{[], _∷_};
 ghost use Prim.Native.Nat.{_+_, _*_, _-_, _≤_};
 ghost use lib.Dec.{leb};
 ghost use lib.ListN.{drop};
-ghost use Rattle.cdi.specs.Words.{between};
+ghost use Rattle.cdi.specs.Lists.{between};
 ghost use Rattle.cdi.specs.Text.{continues, scalar, sequence as sequenceOf, characterAt, isChar};
 ghost use Rattle.text_characters.specs.Answers.{characterOf};
 

@@ -17,7 +17,7 @@ use mathlib.Core.List.{List, [], _∷_, _++_}
 use mathlib.Core.Bool.{true, false}
 use Prim.Native.Nat.{ℕ, zero, suc, _+_}
 use lib.IntN.{ℤ, pos, negsuc}
-use Rattle.cdi.specs.Words.{ascii}
+use Rattle.cdi.specs.Lists.{ascii}
 use Rattle.cdi.specs.Faults.{Answer, accepted, refused, fault}
 use Rattle.cdi.specs.Walk.{Found}
 use Rattle.cdi.specs.Plans.{locating}

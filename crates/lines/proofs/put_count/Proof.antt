@@ -1,5 +1,5 @@
 use borrow.Author.Needs.{needs}
-use Rattle.lines_words.proofs.Putting.{parts}
+use Rattle.lines_items.proofs.Putting.{parts}
 use Rattle.lines.proofs.put_count.Statement.{statement}
 use Rattle.lines.proofs.put_count.Tie as tie
 

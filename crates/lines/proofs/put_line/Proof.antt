@@ -1,5 +1,5 @@
 use borrow.Author.Needs.{needs}
-use Rattle.lines_words.proofs.Putting.{line-put}
+use Rattle.lines_items.proofs.Putting.{line-put}
 use Rattle.lines.proofs.put_line.Statement.{statement}
 use Rattle.lines.proofs.put_line.Tie as tie
 

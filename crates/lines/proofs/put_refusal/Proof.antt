@@ -1,5 +1,5 @@
 use borrow.Author.Needs.{needs}
-use Rattle.lines_words.proofs.Putting.{refusal-put}
+use Rattle.lines_items.proofs.Putting.{refusal-put}
 use Rattle.lines.proofs.put_refusal.Statement.{statement}
 use Rattle.lines.proofs.put_refusal.Tie as tie
 

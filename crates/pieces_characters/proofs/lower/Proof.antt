@@ -1,6 +1,6 @@
 use borrow.Author.Needs.{needs}
 use Rattle.scan.proofs.Tests.{tests}
-use Rattle.cdi.specs.Words.{between}
+use Rattle.cdi.specs.Lists.{between}
 use Rattle.cdi.specs.Pieces.{lower}
 use Rattle.pieces_characters.proofs.lower.Statement.{statement}
 use Rattle.pieces_characters.proofs.lower.Tie as tie

@@ -1,1 +1,0 @@
-// No code: the laws of the gauge. Folded over a tree without faults, extents, records and counts are those of the definitions.

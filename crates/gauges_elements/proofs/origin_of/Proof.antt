@@ -1,9 +1,0 @@
-use Rattle.gauges_elements.proofs.Elements.{origins}
-use Rattle.gauges_elements.proofs.origin_of.Statement.{statement}
-use Rattle.gauges_elements.proofs.origin_of.Tie as tie
-
-pub origin-of-spec : {M : Type 1} → statement M
-origin-of-spec =
-    tie.close (tie.spec
-    (λ c. search origins)
-    (λ c. search origins))

@@ -1,0 +1,14 @@
+use borrow.Author.Needs.{needs}
+use Rattle.tallies_elements.proofs.Elements.{owning}
+use Rattle.tallies_elements.proofs.own_extent.Statement.{statement}
+use Rattle.tallies_elements.proofs.own_extent.Tie as tie
+
+pub own-extent-spec : {M : Type 1} → statement M
+own-extent-spec =
+    tie.close (tie.spec
+    (λ c κs. search needs)
+    (λ c κs. search needs)
+    (λ c κs. search needs)
+    (λ c. search owning)
+    (λ c κs. search needs)
+    (λ c. search owning))

@@ -1,0 +1,13 @@
+use borrow.Author.Needs.{needs}
+use Rattle.tallies_state.proofs.Entering.{entering}
+use Rattle.tallies_state.proofs.enter.Statement.{statement}
+use Rattle.tallies_state.proofs.enter.Tie as tie
+
+pub enter-spec : {M : Type 1} → statement M
+enter-spec =
+    tie.close (tie.spec
+    (λ c κs. search needs)
+    (λ c κs. search needs)
+    (λ c κs. search needs)
+    (λ c κs. search needs)
+    (λ c. search entering))
