@@ -1,4 +1,4 @@
--- The state of the pass, as plain numbers, and what it stands for.
+-- The state of parsing, as plain numbers, and what it stands for.
 use Prim.Native.Nat.{ℕ, _≤_}
 use Rattle.rules_judge.specs.declared.Said.{Said}
 use Rattle.judges_state.specs.Decoded.{judgeOf, Placed}

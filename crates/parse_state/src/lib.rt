@@ -1,4 +1,4 @@
-// The state of the pass as plain numbers, judge and tally beside each other, and the steps that move it. The pass knows these by their contracts
+// The state of parsing as plain numbers, judge and tally beside each other, and the steps that move it. Parsing knows these by their contracts
 // alone.
 
 use judges_state::Judge;

@@ -1,4 +1,4 @@
--- What is summed up along the way: how the state changes at each step of the tree, and what leaving an element writes to the table. The pass
+-- What is summed up along the way: how the state changes at each step of the tree, and what leaving an element writes to the table. Parsing
 -- is proved for any such definitions and never looks into them.
 use mathlib.Core.List.{List}
 use mathlib.Core.Bool.{false, cond}

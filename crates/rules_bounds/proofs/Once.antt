@@ -4,7 +4,8 @@ use mathlib.Core.Bool.{Bool, true, false}
 use Prim.Native.Nat.{ℕ, zero, suc}
 use lib.IntN.{natAbs}
 use Rattle.cdi.specs.Rules.{smallest, largest}
-use Rattle.numbers.specs.Held.{withSign, lowOf, highOf}
+use Rattle.cdi.specs.Values.{withSign}
+use Rattle.numbers.specs.Held.{lowOf, highOf}
 use Rattle.numbers.specs.declared.Range.{Range}
 
 abbrev range : Bool → ℕ → ℕ → Range
