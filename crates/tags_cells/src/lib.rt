@@ -7,9 +7,6 @@ ghost use lib.ListN.{getD};
 ghost use Rattle.rules_judge.specs.Tables.{sizeIn};
 ghost use Rattle.tags_cells.specs.Cells.{isFirst, withCode, withAmount, withExact};
 
-// How many numbers names have, with 0 for any other.
-pub const CELLS: usize = 11;
-
 const SIZE: usize = 9;
 
 fn wide(number: u8) -> usize
