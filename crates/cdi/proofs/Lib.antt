@@ -23,4 +23,5 @@ pub mod Contents
 pub mod Settings
 pub mod Bytes
 pub mod Back
+pub mod Trimmed
 pub mod Promises

@@ -13,7 +13,7 @@ use Rattle.cdi.specs.Lists.{ascii, given, _>>=_, same, among, all, lists
 use Rattle.cdi.specs.Faults.{Fault, unless}
 use Rattle.cdi.specs.Pieces.{Attribute, Piece, pieces-page}
 use Rattle.cdi.specs.Tree.{Nodes, element, other}
-use Rattle.cdi.specs.Numbers.{number, within, numbers-page}
+use Rattle.cdi.specs.Numbers.{trimmed, signedDigits, number, within, numbers-page}
 use Rattle.cdi.specs.Rows.{Form, range, size, AttributeRule, Row, rowOf, optional, offset, dataNames, intSizes, floatSizes, rows-page}
 use Rattle.cdi.specs.Rules.{offTable, Before, nothingBefore, behind, attributeValue, rangeFaults, formFaults, ruleFaults, rulesFaults, known, attributeFaults, missingFaults, numberFaults, intFaults, entryOf, childFaults, strayFaults, isKnown, isInt, ownFaults, faultsIn, natural, sizeText, sizeOf}
 use Rattle.cdi.specs.Table.{sameNumber}
@@ -108,13 +108,13 @@ range-rule p lo hi z needed n s h = there (attributeValue n s)
     there none e = h
     there (some v) e = read (number v) e
 
--- A size under a rule for its texts has one of them.
-size-rule : (p : ℕ) (needed : Bool) (ts : List String) (s : List Attribute) → (not needed ≡ true → among (ascii "1") (map ascii ts) ≡ true)
-    → ruleFaults p (rule (ascii "size") needed (size ts)) s ≡ [] → among (sizeText s) (map ascii ts) ≡ true
+-- A size under a rule for its texts is one of them, blanks at its ends aside.
+size-rule : (p : ℕ) (needed : Bool) (ts : List String) (s : List Attribute) → (not needed ≡ true → among (trimmed (ascii "1")) (map ascii ts) ≡ true)
+    → ruleFaults p (rule (ascii "size") needed (size ts)) s ≡ [] → among (trimmed (sizeText s)) (map ascii ts) ≡ true
 unfolding ruleFaults formFaults sizeText
 size-rule p needed ts s h = there (attributeValue (ascii "size") s)
   where
-    there : (v : Option (List ℕ)) → given v (unless (not needed) (offTable p)) (formFaults p (size ts)) ≡ [] → among (given v (ascii "1") (λ w. w)) (map ascii ts) ≡ true
+    there : (v : Option (List ℕ)) → given v (unless (not needed) (offTable p)) (formFaults p (size ts)) ≡ [] → among (trimmed (given v (ascii "1") (λ w. w))) (map ascii ts) ≡ true
     there none e = h (passed _ _ e)
     there (some v) e = passed _ _ e
 
@@ -174,14 +174,14 @@ module _ (p : ℕ) (s : List Attribute) where
   offset-rule e = range-rule p _ _ (pos 0) false (ascii "offset") s refl e
 
   -- An int's size is one of the texts for it.
-  pub int-size : rulesFaults p (rowOf (ascii "int") .attributes) s ≡ [] → among (sizeText s) (map ascii intSizes) ≡ true
-  unfolding lists-page rows-page
+  pub int-size : rulesFaults p (rowOf (ascii "int") .attributes) s ≡ [] → among (trimmed (sizeText s)) (map ascii intSizes) ≡ true
+  unfolding lists-page pieces-page numbers-page rows-page
   int-size e = size-rule p false intSizes s (λ z. refl) (first-rule _ _ e)
 
-  text-fits : (k : ℕ) (ts : List String) → Each (λ w. sizeFits k (pos (given (number w) 0 natural)) ≡ true) (map ascii ts)
-      → among (sizeText s) (map ascii ts) ≡ true → sizeFits k (pos (sizeOf s)) ≡ true
-  unfolding sizeOf
-  text-fits k ts = among-each (λ w. sizeFits k (pos (given (number w) 0 natural)) ≡ true) (sizeText s) (map ascii ts)
+  text-fits : (k : ℕ) (ts : List String) → Each (λ w. sizeFits k (pos (given (signedDigits w) 0 natural)) ≡ true) (map ascii ts)
+      → among (trimmed (sizeText s)) (map ascii ts) ≡ true → sizeFits k (pos (sizeOf s)) ≡ true
+  unfolding sizeOf number
+  text-fits k ts = among-each (λ w. sizeFits k (pos (given (signedDigits w) 0 natural)) ≡ true) (trimmed (sizeText s)) (map ascii ts)
 
   variable-fits : (n : List ℕ) → same n (ascii "group") ≡ false → ruleFaults p offset s ≡ [] → sizeFits (variableKind n) (pos (variableSize n s)) ≡ true → DataFits n s
   variable-fits n g o z = record { offset = offset-rule o; replication = λ q. cc; sized = λ q. z }

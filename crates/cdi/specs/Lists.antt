@@ -59,6 +59,11 @@ unfoldable pub after : (ℕ → Bool) → List ℕ → List ℕ
 after p [] = []
 after p (x ∷ s) = let r = after p s in cond (p x) r (x ∷ s)
 
+-- what is left without the passing bytes at the end
+unfoldable pub shorn : (ℕ → Bool) → List ℕ → List ℕ
+shorn p [] = []
+shorn p (x ∷ s) = let r = shorn p s in cond (p x && isEmpty r) [] (x ∷ r)
+
 -- two byte strings are the same
 unfoldable pub same : List ℕ → List ℕ → Bool
 same [] [] = true
@@ -89,5 +94,5 @@ between lo hi x = leb lo x && leb x hi
 
 -- opens this page: a declaration that computes with it says `unfolding lists-page`
 unfoldable pub lists-page : Unit {0}
-unfolding isSome isEmpty any all while after same among begins strip beyond between
+unfolding isSome isEmpty any all while after shorn same among begins strip beyond between
 lists-page = tt

@@ -11,7 +11,7 @@ use Rattle.cdi.specs.Lists.{ascii, _>>=_, given, isEmpty, any, all, whil
 use Rattle.cdi.specs.Faults.{Fault, fault, unless}
 use Rattle.cdi.specs.Pieces.{Attribute, Piece, start, finish, remark, refer, text, malformed, unsupported, blank, digit}
 use Rattle.cdi.specs.Tree.{Nodes, end, element, other}
-use Rattle.cdi.specs.Numbers.{number, within, bounded}
+use Rattle.cdi.specs.Numbers.{trimmed, number, within, bounded}
 use Rattle.cdi.specs.Rows.{Form, fixed, range, size, formatting, AttributeRule, ChildRule, Row, rowOf, documentRow, intSizes}
 
 -- 8 "element, order, count, attribute set, fixed text or stray text against the table of elements"
@@ -46,7 +46,8 @@ rangeFaults p inRange (some z) = unless (inRange z) (outOfRange p)
 unfoldable pub formFaults : ℕ → Form → List ℕ → List Fault
 formFaults p (fixed t) v = unless (same v (ascii t)) (offTable p)
 formFaults p (range lo hi) v = rangeFaults p (within lo hi) (number v)
-formFaults p (size ts) v = unless (among v (map ascii ts)) (outOfRange p)
+-- "a token, not a number: blanks at its ends are dropped"
+formFaults p (size ts) v = unless (among (trimmed v) (map ascii ts)) (outOfRange p)
 formFaults p formatting v = unless (isFormatting v) (offTable p)
 
 unfoldable pub ruleFaults : ℕ → AttributeRule → List Attribute → List Fault
@@ -209,7 +210,7 @@ sizeText s = given (attributeValue (ascii "size") s) (ascii "1") (λ v. v)
 -- "both tested only where the int's size, min and max have no other fault"
 unfoldable pub tested : List Attribute → Nodes → Bool
 tested s kids =
-    among (sizeText s) (map ascii intSizes)
+    among (trimmed (sizeText s)) (map ascii intSizes)
     && (sound (rowOf (ascii "int")) (ascii "min") nothingBefore kids && sound (rowOf (ascii "int")) (ascii "max") nothingBefore kids)
 
 unfoldable pub natural : ℤ → ℕ

@@ -19,8 +19,18 @@ slips =
     (writes "<int><min>0</min><max>200</max></int>" (integer (withSign false 200)), storedAs (200 ∷ ascii "eftovers"))
     -- minus zero is not below zero
     ∷ (writes "<int><min>-0</min><max>200</max></int>" (integer (withSign true 0)), storedAs (0 ∷ ascii "eftovers"))
-    -- 04 is a number and no size
+    -- 04 is a number and no size, nor is +4; blanks around a size are dropped
     ∷ (plans (single "<int size=\"04\"/>") 16, refusal 10 174 (lent 16))
+    ∷ (plans (single "<int size=\"+4\"/>") 16, refusal 10 174 (lent 16))
+    ∷ (plans (single "<int size=\" \"/>") 16, refusal 10 174 (lent 16))
+    -- blanks around a number are dropped, a plus says nothing; alone they are no number
+    ∷ (
+      plans (single "<int size=\" 4\t\" offset=\"+5 \"/>") 16,
+      values (pos 2 ∷ pos 1 ∷ []) (map pos (1 ∷ 155 ∷ 0 ∷ 1 ∷ 1 ∷ 2 ∷ 1 ∷ 9 ∷ 3 ∷ 174 ∷ 5 ∷ 4 ∷ 1 ∷ 2 ∷ 1 ∷ 9 ∷ [])),
+    )
+    ∷ (plans (single "<int offset=\"+ 5\"/>") 16, refusal 9 174 (lent 16))
+    ∷ (plans (single "<int offset=\"+-5\"/>") 16, refusal 9 174 (lent 16))
+    ∷ (plans (single "<int offset=\" \"/>") 16, refusal 9 174 (lent 16))
     -- the smaller place speaks, though a smaller number stands behind it
     ∷ (plans (single "<int offset=\"4294967296\"/><unknown/>") 16, refusal 10 174 (lent 16))
     -- no `--` inside a comment, at its end neither

@@ -17,7 +17,7 @@ use Rattle.cdi.proofs.Tests.{both-left, both-right}
 use Rattle.keys.specs.Keys.{faultIn}
 use Rattle.numbers.specs.Held.{sizeOf, nearest, lowOf, highOf}
 use Rattle.numbers.specs.declared.Signed.{Signed}
-use Rattle.numbers.proofs.Ranges.{both-below, both-above, second-below, first-below, wholly-above}
+use Rattle.numbers_order.proofs.Order.{both-below, both-above, second-below, first-below, wholly-above}
 use Rattle.terms.specs.Wholes.{wholeOf}
 use Rattle.rules_judge.specs.Judging.{blamed, boundBlame}
 use Rattle.rules_judge.proofs.Blaming.{blamed-in-turn}

@@ -8,12 +8,13 @@ use native.Mathlib.Omega.{arith}
 use borrow.Author.Tests.{eq-eqb, ne-eqb}
 use Rattle.cdi.specs.Lists.{ascii, isEmpty, same}
 use Rattle.cdi.specs.Pieces.{Attribute}
+use Rattle.cdi.specs.Numbers.{trimmed}
 use Rattle.cdi.specs.Rules.{sizeText}
 use Rattle.scan.proofs.Tests.{eq-or-ne}
 use Rattle.names.specs.Names.{elementNumber}
 use Rattle.rules_judge.specs.declared.Judge.{Judge}
 use Rattle.rules_judge.specs.Judging.{blamed, leaveOf}
-use Rattle.rules_judge.specs.Tables.{entryAt, sizeIn, intSize}
+use Rattle.rules_judge.specs.Tables.{entryAt, exactSize, sizeIn, intSize}
 use Rattle.rules_judge.specs.Parts.{missingBy, numberBy, intBy, limitSound}
 use Rattle.rules_judge.proofs.Blaming.{blamed-append}
 use Rattle.rules_judge.proofs.Tabled.{no-entry}
@@ -22,8 +23,8 @@ use Rattle.judges_state.specs.Steps.{turnOf, sizeAt, contentFaults, soundBy, le
 
 -- a size as it stands in a text is one of the sizes
 size-kept : (v : List ℕ) → sizeAt (sizeIn v) ≡ sizeIn v
-unfolding sizeIn sizeAt
-size-kept v = by (same v (ascii "1")) (same v (ascii "2")) (same v (ascii "4")) (same v (ascii "8"))
+unfolding sizeIn exactSize sizeAt
+size-kept v = by (same (trimmed v) (ascii "1")) (same (trimmed v) (ascii "2")) (same (trimmed v) (ascii "4")) (same (trimmed v) (ascii "8"))
   where
     by : (a b c d : Bool) → sizeAt (cond a 1 (cond b 2 (cond c 4 (cond d 8 0)))) ≡ cond a 1 (cond b 2 (cond c 4 (cond d 8 0)))
     by true b c d = refl

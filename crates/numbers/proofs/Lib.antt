@@ -1,4 +1,2 @@
 pub mod Reading
-pub mod Ranges
-pub mod Formats
 pub mod Once

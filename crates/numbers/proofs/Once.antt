@@ -3,10 +3,8 @@ use mathlib.Core.Path.{_≡_, sym, _∙_}
 use mathlib.Core.List.{List}
 use mathlib.Core.Bool.{Bool}
 use Prim.Native.Nat.{ℕ}
-use lib.Signed.{leZ}
 use Rattle.cdi.specs.Numbers.{number}
-use Rattle.cdi.specs.Rules.{isFormatting}
-use Rattle.numbers.specs.Held.{held, numberOf, nearest}
+use Rattle.numbers.specs.Held.{held, numberOf}
 use Rattle.numbers.specs.declared.Signed.{Signed}
 use Rattle.numbers.specs.declared.Number.{Number}
 
@@ -15,9 +13,3 @@ with-sign-once negative magnitude e f = e ∙ sym f
 
 pub read-number-once : (s : List ℕ) {q r : Number} → q ≡ numberOf (number s) → r ≡ numberOf (number s) → q ≡ r
 read-number-once s e f = e ∙ sym f
-
-pub is-at-most-once : (a b : Signed) {q r : Bool} → q ≡ leZ (nearest a) (nearest b) → r ≡ leZ (nearest a) (nearest b) → q ≡ r
-is-at-most-once a b e f = e ∙ sym f
-
-pub is-formatting-once : (s : List ℕ) {q r : Bool} → q ≡ isFormatting s → r ≡ isFormatting s → q ≡ r
-is-formatting-once s e f = e ∙ sym f

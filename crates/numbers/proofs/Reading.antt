@@ -1,25 +1,30 @@
 -- Reading a number: one digit more, the digits, and the sign.
-use mathlib.Core.Path.{_≡_, refl, sym, _∙_}
+use mathlib.Core.Path.{_≡_, refl, sym, ap, _∙_}
 use mathlib.Core.List.{List, [], _∷_}
-use mathlib.Core.Bool.{Bool, true, false, not}
+use mathlib.Core.Bool.{Bool, true, false, cond, not, _&&_}
 use mathlib.Core.Option.{Option, none, some}
-use mathlib.Core.Logic.{⊎-elim}
+use mathlib.Core.Logic.{_⊎_, inl, inr, ⊎-elim}
 use Prim.Native.Nat.{ℕ, zero, suc, _+_, _-_, _*_, _/_, _^_, _≤_, _<_}
 use native.Mathlib.Omega.{arith}
 use borrow.Author.Needs.{needs}
-use borrow.Author.Tests.{lt-ltb, le-ltb, ne-eqb}
-use lib.Dec.{eqb}
-use lib.IntN.{pos, negℤ}
+use borrow.Author.Tests.{lt-ltb, le-ltb, leb-true, eqb-true, eqb-false, eq-eqb, ne-eqb}
+use lib.Dec.{eqb, leb}
+use lib.IntN.{ℤ, pos, negℤ}
 use mir.Syntax.{w64}
 use mir.Val.{Fits}
 use lib.ListN.{length, take, drop, getD, drop-of-length-le}
-use Rattle.cdi.specs.Lists.{_>>=_, _orElse_, isEmpty, all, strip, begins, between}
-use Rattle.cdi.specs.Pieces.{digit, decimal}
-use Rattle.cdi.specs.Numbers.{digits, number}
+use Rattle.cdi.specs.Lists.{_>>=_, _orElse_, isEmpty, all, shorn, strip, begins, between}
+use Rattle.cdi.specs.Pieces.{blank, digit, decimal}
+use Rattle.cdi.specs.Numbers.{trimmed, digits, signedDigits, number}
 use Rattle.cdi.specs.Values.{withSign}
-use Rattle.scan.proofs.Along.{drop-next, rest}
-use Rattle.scan.proofs.Tests.{lt-or-le}
+use Rattle.cdi.proofs.Tests.{both-left}
+use Rattle.cdi.proofs.Trimmed.{shorn-all, shorn-first}
+use Rattle.scan.specs.Spans.{Span}
+use Rattle.scan.proofs.Along.{drop-next, rest, nothing-there}
+use Rattle.scan.proofs.Spans.{span-rest, span-all}
+use Rattle.scan.proofs.Tests.{lt-or-le, eq-or-ne}
 use Rattle.numbers.specs.Held.{held, sizeOf, nearest, signedOf, numberOf, digitsOf, oneMore, minusOf}
+use Rattle.numbers.specs.Ends.{endedBy, isSign, behindSign}
 use Rattle.numbers.specs.declared.Signed.{Signed}
 use Rattle.numbers.specs.declared.Number.{Number}
 use Rattle.numbers.specs.declared.Number.the-variants.{Is, Not}
@@ -64,53 +69,98 @@ more : (negative : Bool) (v b : ℕ) → oneMore (held negative v) b ≡ held ne
 unfolding oneMore
 more negative v b = ⊎-elim (λ h. rw (held-small negative v h)) (λ h. rw (held-large negative v h, held-large negative (v * 10 + (b - 48)) (omega arith))) (lt-or-le v (2 ^ 64))
 
--- ── the digits ──
+-- ── the digits, and blanks behind them ──
+
+digit-no-blank : (b : ℕ) → digit b ≡ true → blank b ≡ false
+unfolding digit between blank
+digit-no-blank b e =
+    let l = leb-true 48 b (both-left (leb 48 b) (leb b 57) e) in
+    rw (ne-eqb b 32 (λ z. omega arith), ne-eqb b 9 (λ z. omega arith), ne-eqb b 10 (λ z. omega arith))
+
+-- a byte that is no blank stays
+pub kept : (b : ℕ) (s : List ℕ) → blank b ≡ false → shorn blank (b ∷ s) ≡ b ∷ shorn blank s
+unfolding all
+kept b s e = shorn-first blank b s (rw e)
+
+-- what the bytes from a place on say, behind digits of that value
+unfoldable pub onward : ℕ → List ℕ → Option ℕ
+onward v s = cond (all digit (shorn blank s)) (some (decimal v (shorn blank s))) none
 
 -- all up to i are digits, and make this number
 pub record Read (s : List ℕ) (i : ℕ) (n : Signed) : Type 0 where
   pub so-far : ℕ
   pub is : n ≡ held false so-far
   pub here : i ≤ length s
-  pub value : decimal 0 s ≡ decimal so-far (drop i s)
-  pub digits : all digit s ≡ all digit (drop i s)
-
-not-empty : (s : List ℕ) → 0 < length s → isEmpty s ≡ false
-unfolding isEmpty
-not-empty [] h = absurd (omega arith)
-not-empty (b ∷ s) h = refl
-
-empty : (s : List ℕ) → length s ≤ 0 → Not ≡ digitsOf (digits s)
-unfolding digitsOf digits isEmpty
-empty [] h = refl
-empty (b ∷ s) h = absurd (omega arith)
+  pub value : onward 0 s ≡ onward so-far (drop i s)
+  pub begun : (i ≡ 0 → ⊥) → isEmpty (shorn blank s) ≡ false
 
 pub start : (s : List ℕ) {n : Signed} → n ≡ held false 0 → Read s 0 n
-start s e = record { so-far = 0; is = e; here = omega arith; value = refl; digits = refl }
+start s e = record { so-far = 0; is = e; here = omega arith; value = refl; begun = λ z. absurd (z refl) }
 
 module _ {s : List ℕ} {i : ℕ} {n : Signed} (v : Read s i n) where
-  pub ended : length s ≤ i → 0 < i → Is n ≡ digitsOf (digits s)
-  unfolding digitsOf digits all decimal
-  ended h k = rw (not-empty s (omega (arith, v .here)), v .digits, v .value, drop-of-length-le s h, v .is)
+  -- digits, and only blanks behind them
+  shut : (i ≡ 0 → ⊥) → all blank (drop i s) ≡ true → Is n ≡ digitsOf (digits (shorn blank s))
+  unfolding digitsOf digits
+  shut h e = rw (v .begun h, value-is, v .is)
+    where
+      value-is : cond (all digit (shorn blank s)) (some (decimal 0 (shorn blank s))) none ≡ some (v .so-far)
+      value-is = unfold onward all decimal in v .value ∙ rw (shorn-all blank (drop i s) e)
 
-  pub none-read : length s ≤ i → i ≤ 0 → Not ≡ digitsOf (digits s)
-  none-read h k = empty s (omega arith)
+  -- a byte behind them that is neither a digit nor followed by blanks alone
+  broken : onward (v .so-far) (drop i s) ≡ none → Not ≡ digitsOf (digits (shorn blank s))
+  unfolding digitsOf digits onward
+  broken e = rw (v .value ∙ e) (by (isEmpty (shorn blank s)))
+    where
+      by : (t : Bool) → Not ≡ digitsOf (cond t none none)
+      by true = refl
+      by false = refl
+
+  none-begun : i ≡ 0 → all blank (drop i s) ≡ true → Not ≡ digitsOf (digits (shorn blank s))
+  unfolding digitsOf digits isEmpty
+  none-begun z e = rw (shorn-all blank s (rw z at e))
+
+  pub all-read : length s ≤ i → 0 < i → Is n ≡ digitsOf (digits (shorn blank s))
+  unfolding all
+  all-read h k = shut (λ z. omega arith) (rw (drop-of-length-le s h))
+
+  pub none-read : length s ≤ i → i ≤ 0 → Not ≡ digitsOf (digits (shorn blank s))
+  unfolding all
+  none-read h k = none-begun (omega arith) (rw (drop-of-length-le s h))
 
   module _ {t : Bool} (h : i < length s) (e : t ≡ digit (getD s i 0)) where
-    pub other : t ≡ false → Not ≡ digitsOf (digits s)
-    unfolding digitsOf digits all
-    other f = rw (not-empty s (omega arith), v .digits, drop-next s i h, ← e, f)
+    pub stopped : {r : Number} → t ≡ false → r ≡ endedBy s i n → r ≡ digitsOf (digits (shorn blank s))
+    unfolding endedBy
+    stopped f g = g ∙ by (all blank (drop i s)) refl (eqb i 0) refl
+      where
+        cut-off : all blank (drop i s) ≡ false → onward (v .so-far) (drop i s) ≡ none
+        cut-off k = unfold onward all in rw (drop-next s i h, shorn-first blank (getD s i 0) (drop (i + 1) s) (ap (all blank) (sym (drop-next s i h)) ∙ k), ← e, f)
+
+        by : (a : Bool) → all blank (drop i s) ≡ a → (z : Bool) → eqb i 0 ≡ z → cond (not z && a) (Is n) Not ≡ digitsOf (digits (shorn blank s))
+        by true k true z = none-begun (eqb-true i 0 z) k
+        by true k false z = shut (eqb-false i 0 z) k
+        by false k true z = broken (cut-off k)
+        by false k false z = broken (cut-off k)
 
     pub another : {m : Signed} → t ≡ true → m ≡ oneMore n (getD s i 0) → Read s (i + 1) m
-    unfolding all decimal
     another f g = record {
       so-far = v .so-far * 10 + (getD s i 0 - 48);
       is = g ∙ rw (v .is, more);
       here = omega arith;
-      value = v .value ∙ rw (drop-next s i h);
-      digits = v .digits ∙ rw (drop-next s i h, ← e, f);
+      value = v .value ∙ onward-step;
+      begun = λ z. first-stays;
     }
+      where
+        onward-step : onward (v .so-far) (drop i s) ≡ onward (v .so-far * 10 + (getD s i 0 - 48)) (drop (i + 1) s)
+        onward-step = unfold onward all decimal in rw (drop-next s i h, kept (getD s i 0) (drop (i + 1) s) (digit-no-blank (getD s i 0) (sym e ∙ f)), ← e, f)
 
-pub ruleset digit-loop = (start, ended, none-read, other, another, needs)
+        first-stays : isEmpty (shorn blank s) ≡ false
+        first-stays = by (eq-or-ne i 0)
+          where
+            by : (i ≡ 0) ⊎ (i ≡ 0 → ⊥) → isEmpty (shorn blank s) ≡ false
+            by (inl z) = unfold isEmpty in ap (λ l. isEmpty (shorn blank (drop l s))) (sym z) ∙ rw (drop-next s i h, kept (getD s i 0) (drop (i + 1) s) (digit-no-blank (getD s i 0) (sym e ∙ f)))
+            by (inr z) = v .begun z
+
+pub ruleset digit-loop = (start, all-read, none-read, stopped, another, needs)
 
 -- ── the sign ──
 
@@ -138,50 +188,126 @@ unfolding digitsOf numberOf signedOf
 plain none = refl
 plain (some n) = refl
 
-no-digits : (o : Option ℕ) → digitsOf o ≡ Not → Not ≡ numberOf (o >>= λ n. some (negℤ (pos n)))
+no-digits : (minus : Bool) (o : Option ℕ) → digitsOf o ≡ Not → Not ≡ numberOf (o >>= λ n. some (cond minus (negℤ (pos n)) (pos n)))
 unfolding digitsOf numberOf
-no-digits none e = refl
-no-digits (some n) e = cc
+no-digits minus none e = refl
+no-digits minus (some n) e = cc
 
 some-digits : (o : Option ℕ) {m t : Signed} → digitsOf o ≡ Is m → t ≡ minusOf m → Is t ≡ numberOf (o >>= λ n. some (negℤ (pos n)))
 unfolding digitsOf numberOf
 some-digits none e f = cc
 some-digits (some n) e f = cc (minus-held n)
 
-with-minus : (s : List ℕ) → number (45 ∷ s) ≡ (digits s >>= λ n. some (negℤ (pos n)))
-unfolding number strip begins
-with-minus s = rw none-there (by (digits s))
+-- ── the sign, and blanks before it ──
+
+no-digit : (b : ℕ) (s : List ℕ) → digit b ≡ false → digits (b ∷ s) ≡ none
+unfolding digits isEmpty all
+no-digit b s e = rw e
+
+and-nothing : (o : Option ℕ) (f : ℕ → ℤ) → ((o >>= λ n. some (f n)) orElse none) ≡ (o >>= λ n. some (f n))
+and-nothing none f = refl
+and-nothing (some n) f = refl
+
+module _ (s : List ℕ) where
+  after-minus : signedDigits (shorn blank (45 ∷ s)) ≡ (digits (shorn blank s) >>= λ n. some (negℤ (pos n)))
+  unfolding signedDigits strip begins blank digit between
+  after-minus = rw (kept 45 s refl, no-digit 45 (shorn blank s) refl) (and-nothing (digits (shorn blank s)) (λ n. negℤ (pos n)))
+
+  after-plus : signedDigits (shorn blank (43 ∷ s)) ≡ (digits (shorn blank s) >>= λ n. some (pos n))
+  unfolding signedDigits strip begins blank digit between
+  after-plus = rw (kept 43 s refl, no-digit 43 (shorn blank s) refl) (and-nothing (digits (shorn blank s)) pos)
+
+  without : (b : ℕ) → (b ≡ 45 → ⊥) → (b ≡ 43 → ⊥) → signedDigits (shorn blank (b ∷ s)) ≡ (digits (shorn blank (b ∷ s)) >>= λ n. some (pos n))
+  unfolding signedDigits strip begins digits isEmpty
+  without b h k = by (all blank (b ∷ s)) refl
+    where
+      by : (t : Bool) → all blank (b ∷ s) ≡ t → signedDigits (shorn blank (b ∷ s)) ≡ (digits (shorn blank (b ∷ s)) >>= λ n. some (pos n))
+      by true e = rw (shorn-all blank (b ∷ s) e)
+      by false e = rw (shorn-first blank b s e, ne-eqb 45 b (λ z. h (sym z)), ne-eqb 43 b (λ z. k (sym z)))
+
+-- the number of that sign
+abbrev told : Bool → Option ℕ → Option ℤ
+told minus o = o >>= λ n. some (cond minus (negℤ (pos n)) (pos n))
+
+signed-at : (b : ℕ) (u w : List ℕ) → (isSign b ≡ true → w ≡ u) → (isSign b ≡ false → w ≡ b ∷ u)
+    → signedDigits (shorn blank (b ∷ u)) ≡ told (begins (45 ∷ []) (b ∷ u)) (digits (shorn blank w))
+unfolding isSign begins
+signed-at b u w h k = by (eqb b 45) refl (eqb b 43) refl
   where
-    none-there : digits (45 ∷ s) ≡ none
-    none-there = unfold digits isEmpty all digit between in refl
+    by : (x : Bool) → eqb b 45 ≡ x → (y : Bool) → eqb b 43 ≡ y → signedDigits (shorn blank (b ∷ u)) ≡ told (begins (45 ∷ []) (b ∷ u)) (digits (shorn blank w))
+    by true e y f = rw (h (rw e), eqb-true b 45 e) (after-minus u)
+    by false e true f = rw (h (rw (e, f)), eqb-true b 43 f) (after-plus u)
+    by false e false f = rw (k (rw (e, f)), ne-eqb 45 b (λ z. eqb-false b 45 e (sym z))) (without u b (eqb-false b 45 e) (eqb-false b 43 f))
 
-    by : (o : Option ℕ) → ((o >>= λ n. some (negℤ (pos n))) orElse none) ≡ (o >>= λ n. some (negℤ (pos n)))
-    by none = refl
-    by (some n) = refl
+module _ (s : List ℕ) {from at : ℕ} (v : Span blank s 0 from) (e : at ≡ behindSign s from) where
+  number-is : number s ≡ told (begins (45 ∷ []) (drop from s)) (digits (shorn blank (drop at s)))
+  unfolding number trimmed
+  number-is = ap (λ l. signedDigits (shorn blank l)) (span-rest v) ∙ ⊎-elim some-left none-left (lt-or-le from (length s))
+    where
+      there : (t : Bool) → isSign (getD s from 0) ≡ t → drop at s ≡ drop (cond t (from + 1) from) s
+      there t f = rw (e ∙ place)
+        where
+          place : behindSign s from ≡ cond t (from + 1) from
+          place = unfold behindSign in rw f
 
-without : (b : ℕ) (s : List ℕ) → (b ≡ 45 → ⊥) → number (b ∷ s) ≡ (digits (b ∷ s) >>= λ n. some (pos n))
-unfolding number strip begins
-without b s h = rw (ne-eqb 45 b (λ e. h (sym e)))
+      Goal : Type 0
+      Goal = signedDigits (shorn blank (drop from s)) ≡ told (begins (45 ∷ []) (drop from s)) (digits (shorn blank (drop at s)))
 
-pub nothing : (s : List ℕ) → length s ≡ 0 → Not ≡ numberOf (number s)
-unfolding number strip begins digits isEmpty numberOf
-nothing [] h = refl
-nothing (b ∷ s) h = absurd (omega arith)
+      none-left : length s ≤ from → Goal
+      none-left h =
+          let z = there false (unfold isSign in rw (← nothing-there s from h)) in
+          unfold signedDigits shorn strip begins digits isEmpty in rw (z, drop-of-length-le s h)
 
-number-minus : (s : List ℕ) → (length s ≡ 0 → ⊥) → getD s 0 0 ≡ 45 → number s ≡ (digits (take (length s - 1) (drop 1 s)) >>= λ n. some (negℤ (pos n)))
-number-minus [] h e = absurd (h refl)
-number-minus (b ∷ s) h e = rw (rest (b ∷ s) 1, e) (with-minus s)
+      some-left : from < length s → Goal
+      some-left h = rw (drop-next s from h) (signed-at (getD s from 0) (drop (from + 1) s) (drop at s) (there true) (λ f. there false f ∙ drop-next s from h))
 
-module _ (s : List ℕ) (h : length s ≡ 0 → ⊥) {r : Number} where
-  module _ (e : getD s 0 0 ≡ 45) (d : r ≡ digitsOf (digits (take (length s - 1) (drop 1 s)))) where
-    pub bare-minus : r ≡ Not → Not ≡ numberOf (number s)
-    bare-minus f = rw (number-minus s h e) (no-digits (digits (take (length s - 1) (drop 1 s))) (sym d ∙ f))
+  module _ {r : Number} (d : r ≡ digitsOf (digits (shorn blank (take (length s - at) (drop at s))))) where
+    -- what the reader of digits said of the rest
+    said : r ≡ digitsOf (digits (shorn blank (drop at s)))
+    said = d ∙ ap (λ l. digitsOf (digits (shorn blank l))) (rest s at)
 
-    pub negative : {m t : Signed} → r ≡ Is m → t ≡ minusOf m → Is t ≡ numberOf (number s)
-    negative f g = rw (number-minus s h e) (some-digits (digits (take (length s - 1) (drop 1 s))) (sym d ∙ f) g)
+    pub no-number : r ≡ Not → Not ≡ numberOf (number s)
+    no-number f = rw number-is (no-digits (begins (45 ∷ []) (drop from s)) (digits (shorn blank (drop at s))) (sym said ∙ f))
 
-pub unsigned : (s : List ℕ) (h : length s ≡ 0 → ⊥) {r : Number} → (getD s 0 0 ≡ 45 → ⊥) → r ≡ digitsOf (digits s) → r ≡ numberOf (number s)
-unsigned [] h e d = absurd (h refl)
-unsigned (b ∷ s) h e d = d ∙ rw (without b s e) (plain (digits (b ∷ s)))
+    module _ {m : Signed} {t : Bool} (f : r ≡ Is m) (g : t ≡ begins (45 ∷ []) (drop from s)) where
+      pub negative : {k : Signed} → t ≡ true → k ≡ minusOf m → Is k ≡ numberOf (number s)
+      negative h i = rw (number-is, ← g, h) (some-digits (digits (shorn blank (drop at s))) (sym said ∙ f) i)
 
-pub ruleset signs = (nothing, bare-minus, negative, unsigned, needs)
+      pub positive : t ≡ false → Is m ≡ numberOf (number s)
+      positive h = rw (number-is, ← g, h) (sym f ∙ said ∙ plain (digits (shorn blank (drop at s))))
+
+pub ruleset signs = (no-number, negative, positive, needs)
+
+-- ── the parts of both ends ──
+
+module _ (s : List ℕ) (at : ℕ) where
+  pub none-before : (n : Signed) → at ≡ 0 → Not ≡ endedBy s at n
+  unfolding endedBy
+  none-before n e = rw e
+
+  module _ (n : Signed) {r : ℕ} (v : Span blank s at r) (h : at ≡ 0 → ⊥) where
+    pub only-blanks : r ≡ length s → Is n ≡ endedBy s at n
+    unfolding endedBy
+    only-blanks e = rw (ne-eqb at 0 h, ← span-all v, eq-eqb r (length s) e)
+
+    pub more-behind : (r ≡ length s → ⊥) → Not ≡ endedBy s at n
+    unfolding endedBy
+    more-behind e = rw (ne-eqb at 0 h, ← span-all v, ne-eqb r (length s) e)
+
+  pub sign-past : length s ≤ at → at ≡ behindSign s at
+  unfolding behindSign isSign
+  sign-past h = rw (← nothing-there s at h)
+
+  pub sign-minus : getD s at 0 ≡ 45 → at + 1 ≡ behindSign s at
+  unfolding behindSign isSign
+  sign-minus e = rw e
+
+  pub sign-plus : getD s at 0 ≡ 43 → at + 1 ≡ behindSign s at
+  unfolding behindSign isSign
+  sign-plus e = rw e
+
+  pub no-sign : (getD s at 0 ≡ 45 → ⊥) → (getD s at 0 ≡ 43 → ⊥) → at ≡ behindSign s at
+  unfolding behindSign isSign
+  no-sign e f = rw (ne-eqb (getD s at 0) 45 e, ne-eqb (getD s at 0) 43 f)
+
+pub ruleset both-ends = (none-before, only-blanks, more-behind, sign-past, sign-minus, sign-plus, no-sign, needs)

@@ -1,2 +1,2 @@
 pub mod Held
-pub mod Formatting
+pub mod Ends

@@ -1,17 +1,17 @@
-// Numbers: an optional minus and one or more decimal digits, nothing else. They are read from any bytes and compared; the pattern of
-// `formatting` stands beside them.
+// Numbers: blanks or none, an optional plus or minus, one or more decimal digits, blanks or none, and nothing else. They are read from any bytes.
 
+use scan::is_digit;
+use spans::blanks;
+use spans::is_at;
 ghost use mathlib.Core.Path.{_≡_};
 ghost use Prim.Native.Nat.{_-_, _≤_};
-ghost use lib.Dec.{eqb, leb};
-ghost use lib.Signed.{leZ};
-ghost use Rattle.cdi.specs.Lists.{ascii, same as sameBytes, after};
-ghost use Rattle.cdi.specs.Pieces.{digit};
+ghost use lib.ListN.{length};
+ghost use Rattle.cdi.specs.Lists.{shorn};
+ghost use Rattle.cdi.specs.Pieces.{blank};
 ghost use Rattle.cdi.specs.Numbers.{number, digits as digitsIn};
-ghost use Rattle.cdi.specs.Rules.{isFormatting};
 ghost use Rattle.cdi.specs.Values.{withSign};
-ghost use Rattle.numbers.specs.Held.{held, oneMore, digitsOf, numberOf, minusOf, sizeOf, nearest};
-ghost use Rattle.numbers.specs.Formatting.{isFraction};
+ghost use Rattle.numbers.specs.Held.{held, oneMore, digitsOf, numberOf, minusOf, nearest};
+ghost use Rattle.numbers.specs.Ends.{endedBy, behindSign};
 
 // A number: its sign and its magnitude. A magnitude that needs more than 64 bits is large, and 0 stands in its place.
 pub struct Signed {
@@ -75,18 +75,32 @@ fn one_more(n: Signed, b: u8) -> Signed
     }
 }
 
-// The number without a sign that these bytes are.
+// The number of the digits before a place, where there are any and only blanks stand from there on.
+fn ended(s: &[u8], at: usize, n: Signed) -> Number
+    requires { ⌜ at ≤ length (now s) ⌝ }
+    ensures { λ r. ⌜ r ≡ endedBy (now (s .entry)) at n ⌝ }
+{
+    if at == 0 {
+        return Number::Not;
+    }
+    if blanks(s, at) == s.len() {
+        return Number::Is(n);
+    }
+    Number::Not
+}
+
+// The number without a sign that these bytes are, blanks at the end aside.
 fn digits(s: &[u8]) -> Number
-    ensures { λ r. ⌜ r ≡ digitsOf (digitsIn (now (s .entry))) ⌝ }
+    ensures { λ r. ⌜ r ≡ digitsOf (digitsIn (shorn blank (now (s .entry)))) ⌝ }
 {
     let mut n = with_sign(false, 0);
     let mut i = 0;
     while i < s.len() {
-        if scan::is_digit(s[i]) {
+        if is_digit(s[i]) {
             n = one_more(n, s[i]);
             i += 1;
         } else {
-            return Number::Not;
+            return ended(s, i, n);
         }
     }
     if 0 < i {
@@ -106,99 +120,35 @@ fn minus(n: Signed) -> Signed
     }
 }
 
+// The place behind the sign that stands at this place, if one does.
+fn behind_sign(s: &[u8], at: usize) -> usize
+    requires { ⌜ at ≤ length (now s) ⌝ }
+    ensures { λ r. ⌜ r ≡ behindSign (now (s .entry)) at ⌝ }
+    ensures bounds { λ r. ⌜ r ≤ length (now (s .entry)) ⌝ }
+{
+    if s.len() <= at {
+        return at;
+    }
+    if s[at] == b'-' {
+        return at + 1;
+    }
+    if s[at] == b'+' {
+        return at + 1;
+    }
+    at
+}
+
 // The number that these bytes are, if they are one.
 pub fn read_number(value: &[u8]) -> Number
     ensures { λ r. ⌜ r ≡ numberOf (number (now (value .entry))) ⌝ }
 {
-    if value.len() == 0 {
+    let from = blanks(value, 0);
+    let at = behind_sign(value, from);
+    let Number::Is(n) = digits(&value[at..]) else {
         return Number::Not;
-    }
-    if value[0] == b'-' {
-        let Number::Is(n) = digits(&value[1..]) else {
-            return Number::Not;
-        };
+    };
+    if is_at(value, from, b'-') {
         return Number::Is(minus(n));
     }
-    digits(value)
-}
-
-fn is_nought(n: Signed) -> bool
-    ensures { λ r. ⌜ r ≡ eqb (sizeOf n) 0 ⌝ }
-{
-    if n.large {
-        return false;
-    }
-    n.magnitude == 0
-}
-
-// Is the magnitude of a at most that of b?
-fn is_no_larger(a: Signed, b: Signed) -> bool
-    ensures { λ r. ⌜ r ≡ leb (sizeOf a) (sizeOf b) ⌝ }
-{
-    let m = a.magnitude;
-    let n = b.magnitude;
-    if b.large {
-        return true;
-    }
-    if a.large {
-        return false;
-    }
-    m <= n
-}
-
-// Is a at most b? Large numbers of one sign count as equal.
-pub fn is_at_most(a: Signed, b: Signed) -> bool
-    ensures { λ r. ⌜ r ≡ leZ (nearest a) (nearest b) ⌝ }
-{
-    if a.negative {
-        if b.negative {
-            return is_no_larger(b, a);
-        }
-        return true;
-    }
-    if b.negative {
-        if is_nought(a) {
-            return is_nought(b);
-        }
-        return false;
-    }
-    is_no_larger(a, b)
-}
-
-// Are these any digits or none, and then `f`?
-fn is_tail(s: &[u8]) -> bool
-    ensures { λ r. ⌜ r ≡ sameBytes (after digit (now (s .entry))) (ascii "f") ⌝ }
-{
-    let end = scan::span(s, 0, scan::Class::Decimal);
-    scan::same(&s[end..], b"f")
-}
-
-// Are these `.`, any digits or none, and then `f`?
-fn is_fraction(rest: &[u8]) -> bool
-    ensures { λ r. ⌜ r ≡ isFraction (now (rest .entry)) ⌝ }
-{
-    if rest.len() == 0 {
-        return false;
-    }
-    if rest[0] == b'.' {
-        return is_tail(&rest[1..]);
-    }
-    false
-}
-
-// Is the value one that `formatting` may have?
-pub fn is_formatting(pattern: &[u8]) -> bool
-    ensures { λ r. ⌜ r ≡ isFormatting (now (pattern .entry)) ⌝ }
-{
-    if pattern.len() == 0 {
-        return false;
-    }
-    if pattern[0] == b'%' {
-        if is_tail(&pattern[1..]) {
-            return true;
-        }
-        let end = scan::span(pattern, 1, scan::Class::Decimal);
-        return is_fraction(&pattern[end..]);
-    }
-    false
+    Number::Is(n)
 }

@@ -10,7 +10,7 @@ use Rattle.cdi.specs.Lists.{ascii, given, _>>=_, isEmpty, same, among, lists-pa
 use Rattle.cdi.specs.Faults.{Fault}
 use Rattle.cdi.specs.Pieces.{Attribute}
 use Rattle.cdi.specs.Tree.{Nodes, end, element, other}
-use Rattle.cdi.specs.Numbers.{bounded}
+use Rattle.cdi.specs.Numbers.{trimmed, bounded}
 use Rattle.cdi.specs.Rows.{Row, rowOf, intSizes, rows-page}
 use Rattle.cdi.specs.Rules as R
 use Rattle.cdi.specs.Rules.{Before, nothingBefore, behind, childFaults, ownNumber, boundOf, boundsOf, isSigned, boundFaults, tested, sizeText, sizeOf, isInt, intFaults}
@@ -104,7 +104,7 @@ unfolding fresh
 int-after l kids = after kids (record { row = refl; numeric = refl }) like-nothing
 
 module _ (l : Least) (s : List Attribute) (kids : Nodes) where
-  int-tested : (among (sizeText s) (map ascii intSizes) && judgeNodes (fresh l int true) kids .sound) ≡ tested s kids
+  int-tested : (among (trimmed (sizeText s)) (map ascii intSizes) && judgeNodes (fresh l int true) kids .sound) ≡ tested s kids
   unfolding tested fresh
   int-tested = rw (int-after l kids .sound, ← int-row)
 
@@ -114,7 +114,7 @@ module _ (l : Least) (s : List Attribute) (kids : Nodes) where
   tested-blamed p n h =
       let a = int-after l kids in
       let row = rowOf (ascii "int") in
-      let both = both-right (among (sizeText s) (map ascii intSizes)) _ h in
+      let both = both-right (among (trimmed (sizeText s)) (map ascii intSizes)) _ h in
       let low = bound-found row (ascii "min") nothingBefore kids (both-left _ (R.sound row (ascii "max") nothingBefore kids) both) in
       let high = bound-found row (ascii "max") nothingBefore kids (both-right (R.sound row (ascii "min") nothingBefore kids) _ both) in
       rw (a .low, a .high, low, high) (bounds-blamed p n kids)

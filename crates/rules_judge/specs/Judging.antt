@@ -12,7 +12,7 @@ use Rattle.cdi.specs.Faults as F
 use Rattle.cdi.specs.Faults.{unless, lesser, least}
 use Rattle.cdi.specs.Pieces.{Attribute, Piece, start, finish, remark, refer, text, malformed, unsupported}
 use Rattle.cdi.specs.Tree.{Nodes, end, element, other}
-use Rattle.cdi.specs.Numbers.{number, bounded}
+use Rattle.cdi.specs.Numbers.{trimmed, number, bounded}
 use Rattle.cdi.specs.Rows.{Row, rowOf, documentRow, intSizes}
 use Rattle.cdi.specs.Rules.{offTable, noNumber, outOfRange, attributeFaults, entryOf, strayFaults, numberNames, storable, largest, sizeText, sizeOf, isInt}
 use Rattle.cdi.specs.Values.{withSign}
@@ -157,7 +157,7 @@ boundBlame p n low high =
     ++ unless (not (lowGood && highGood) || leZ min max) (outOfRange p))
 
 unfoldable pub intBlame : ℕ → List ℕ → List Attribute → Judge → List F.Fault
-intBlame p n s i = cond (isInt n && (among (sizeText s) (map ascii intSizes) && i .sound)) (boundBlame p (sizeOf s) (i .low) (i .high)) []
+intBlame p n s i = cond (isInt n && (among (trimmed (sizeText s)) (map ascii intSizes) && i .sound)) (boundBlame p (sizeOf s) (i .low) (i .high)) []
 
 -- the first child of its name that says a number is the bound
 unfoldable pub bounding : Bool → Bound → ℕ → Said → Bound

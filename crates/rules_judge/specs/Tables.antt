@@ -7,6 +7,7 @@ use lib.IntN.{pos}
 use lib.ListN.{getD}
 use Rattle.cdi.specs.Lists.{ascii, given, same}
 use Rattle.cdi.specs.Pieces.{Attribute}
+use Rattle.cdi.specs.Numbers.{trimmed}
 use Rattle.cdi.specs.Rows.{Form, fixed, range, size, formatting, AttributeRule, ChildRule, required, optional, byteRange, offset, intSizes, floatSizes}
 use Rattle.cdi.specs.Rules.{entryOf, sizeText}
 use Rattle.names.specs.Names.{elementNames, attributeNumber}
@@ -113,13 +114,17 @@ hasNumber a b c s = isOneOf a b c (attributeNumber (s .name))
 -- ── sizes ──
 
 -- the size that a text says exactly, or 0
+unfoldable pub exactSize : List ℕ → ℕ
+exactSize t = cond (same t (ascii "1")) 1 (cond (same t (ascii "2")) 2 (cond (same t (ascii "4")) 4 (cond (same t (ascii "8")) 8 0)))
+
+-- the same, blanks at its ends aside
 unfoldable pub sizeIn : List ℕ → ℕ
-sizeIn t = cond (same t (ascii "1")) 1 (cond (same t (ascii "2")) 2 (cond (same t (ascii "4")) 4 (cond (same t (ascii "8")) 8 0)))
+sizeIn t = exactSize (trimmed t)
 
 -- an int's size by its attributes, or 0
 unfoldable pub intSize : List Attribute → ℕ
 intSize s = sizeIn (sizeText s)
 
 unfoldable pub tables-page : Unit {0}
-unfolding entryAt manyFrom manyAt inTurn ruleLists ruleOf ruleNumbers ruleAt attributeOf isRequired firstName otherName attributeName formIn formOf isOneOf hasNumber sizeIn intSize
+unfolding entryAt manyFrom manyAt inTurn ruleLists ruleOf ruleNumbers ruleAt attributeOf isRequired firstName otherName attributeName formIn formOf isOneOf hasNumber exactSize sizeIn intSize
 tables-page = tt

@@ -3,8 +3,8 @@
 use children::Part;
 use numbers::Number;
 use numbers::Signed;
-use numbers::is_at_most;
 use numbers::with_sign;
+use numbers_order::is_at_most;
 use rules_bounds::range_of;
 use settings::child_number;
 ghost use mathlib.Core.Path.{_≡_};

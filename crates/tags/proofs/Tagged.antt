@@ -11,11 +11,11 @@ use borrow.Author.Tests.{eq-eqb, ne-eqb, eqb-true}
 use lib.Dec.{eqb}
 use lib.ListN.{length, drop, getD, drop-of-length-le, List·getD-eq-default}
 use lib.Seq.{drop-drop}
-use Rattle.cdi.specs.Lists.{any, all, same, begins, isEmpty, after, lists-page}
+use Rattle.cdi.specs.Lists.{any, all, same, begins, isEmpty, after}
 use Rattle.cdi.specs.Faults.{least}
 use Rattle.cdi.specs.Pieces.{Attribute, blank, attributes, tagEnd, bears, twice}
 use Rattle.cdi.specs.Markup.{refers}
-use Rattle.cdi.specs.Rules.{attributeFaults, attributeValue, sizeText}
+use Rattle.cdi.specs.Rules.{attributeFaults}
 use Rattle.cdi.proofs.Quiet.{impossible, same-equal}
 use Rattle.scan.specs.Spans.{Span}
 use Rattle.scan.proofs.Along.{drop-next}
@@ -24,8 +24,9 @@ use Rattle.scan.proofs.Tests.{lt-or-le}
 use Rattle.names.specs.Names.{attributeNumber}
 use Rattle.pieces_cuts.specs.Places.{closing, Closes}
 use Rattle.rules_judge.specs.Tables as T
-use Rattle.rules_judge.specs.Tables.{tables-page}
+use Rattle.rules_judge.specs.Tables.{intSize, tables-page}
 use Rattle.rules_judge.proofs.Below.{all-below, below}
+use Rattle.rules_judge.proofs.Sized.{default-size}
 use Rattle.tally_tag.specs.Numbered.{numbersBy}
 use Rattle.tags_values.specs.Codes.{amountFor, numbered, codeIn}
 use Rattle.tags_cells.specs.Cells.{hasOne, knownTwice, Fresh}
@@ -239,9 +240,9 @@ module _ (s : List ℕ) (n e : ℕ) {a : Bool} (w : a ≡ begins (62 ∷ []) (dr
     none′ = λ q. absurd (omega arith);
     refer = λ q. unfold refers any in rw no-attributes;
     alone = λ q. unfold isEmpty in rw no-attributes;
-    told = λ q p. ap (λ (xs : List Attribute). least (attributeFaults p (Rattle.rules_judge.specs.Judging.rowAt e) xs)) no-attributes ∙ told e p {codes = []} {exact = 1} {t = true} [] none-coded (unfold lists-page tables-page sizeText attributeValue in refl) (unfold all in refl) ∙ ap (λ (m : ℕ). least (faultsAt p m)) (sym x);
+    told = λ q p. ap (λ (xs : List Attribute). least (attributeFaults p (Rattle.rules_judge.specs.Judging.rowAt e) xs)) no-attributes ∙ told e p {codes = []} {exact = 1} {t = true} [] none-coded (sym default-size) (unfold all in refl) ∙ ap (λ (m : ℕ). least (faultsAt p m)) (sym x);
     small = omega (arith, x, fault-small e {codes = []} 1 true [] none-coded);
-    size = λ q. unfold lists-page tables-page sizeText attributeValue in rw no-attributes;
+    size = λ q. sym (ap intSize no-attributes ∙ default-size);
     numbers = λ q. rw no-attributes y;
     bounded = λ q. b;
   }

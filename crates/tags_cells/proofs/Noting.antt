@@ -3,67 +3,70 @@ use mathlib.Core.Path.{_≡_, refl, sym, ap, _∙_}
 use mathlib.Core.List.{List, [], _∷_}
 use mathlib.Core.Bool.{Bool, true, false, cond, not, _&&_}
 use mathlib.Core.Logic.{⊎-elim}
-use Prim.Native.Nat.{ℕ, _≤_, _<_}
+use Prim.Native.Nat.{ℕ, _+_, _≤_, _<_}
 use native.Mathlib.Omega.{arith}
 use borrow.Author.Needs.{needs}
-use borrow.Author.Tests.{ne-eqb}
+use borrow.Author.Tests.{eq-eqb, ne-eqb}
 use lib.Dec.{eqb}
-use lib.ListN.{length, getD, set}
-use Rattle.cdi.specs.Lists.{ascii, same, lists-page}
-use Rattle.cdi.proofs.Quiet.{impossible, same-equal}
+use lib.ListN.{length, drop, getD, set, drop-of-length-le}
+use Rattle.cdi.specs.Lists.{isEmpty, all, shorn, same}
+use Rattle.cdi.specs.Pieces.{blank}
+use Rattle.cdi.specs.Numbers.{trimmed}
+use Rattle.cdi.proofs.Quiet.{impossible}
+use Rattle.cdi.proofs.Trimmed.{shorn-empty, shorn-all, shorn-first}
+use Rattle.scan.specs.Spans.{Span}
+use Rattle.scan.proofs.Along.{drop-next}
+use Rattle.scan.proofs.Spans.{span-rest, span-all, span-stop}
 use Rattle.scan.proofs.Tests.{eq-or-ne}
-use Rattle.rules_judge.specs.Tables.{sizeIn}
+use Rattle.rules_judge.specs.Tables.{exactSize, sizeIn}
 use Rattle.tags_values.specs.Codes.{codeOf, amountOf}
-use Rattle.tags_cells.specs.Cells.{isFirst, withCode, withAmount, withExact}
+use Rattle.tags_cells.specs.Cells.{isFirst, withCode, withAmount, sizeOfByte, withExact}
 
 -- ── sizes ──
+
+pub ruleset byte-sizes = (eq-eqb, ne-eqb, needs)
 
 and-true : (t : Bool) → (t && true) ≡ t
 and-true true = refl
 and-true false = refl
 
--- a text of another length is another text
-other-length : (v w : List ℕ) → (length v ≡ length w → ⊥) → same v w ≡ false
-other-length v w h = by (same v w) refl
+-- a text of one byte says what the byte does, and a longer one no size
+one-byte : (b : ℕ) → sizeOfByte b ≡ exactSize (b ∷ [])
+unfolding sizeOfByte exactSize same
+one-byte b = rw (and-true (eqb b 49), and-true (eqb b 50), and-true (eqb b 52), and-true (eqb b 56))
+
+longer : (b : ℕ) (s : List ℕ) → isEmpty s ≡ false → 0 ≡ exactSize (b ∷ s)
+unfolding exactSize same isEmpty
+longer b [] e = cc
+longer b (c ∷ s) e = rw (and-false (eqb b 49), and-false (eqb b 50), and-false (eqb b 52), and-false (eqb b 56))
   where
-    by : (t : Bool) → same v w ≡ t → t ≡ false
-    by true e = absurd (h (ap (λ (x : List ℕ). length x) (same-equal v w e)))
-    by false e = refl
+    and-false : (t : Bool) → (t && false) ≡ false
+    and-false true = refl
+    and-false false = refl
 
-module _ (v : List ℕ) where
-  pub not-one : (length v ≡ 1 → ⊥) → 0 ≡ sizeIn v
-  unfolding sizeIn
-  not-one h = rw (other-length v (ascii "1") h, other-length v (ascii "2") h, other-length v (ascii "4") h, other-length v (ascii "8") h)
+module _ (v : List ℕ) {at : ℕ} (w : Span blank v 0 at) where
+  shorn-is : sizeIn v ≡ exactSize (shorn blank (drop at v))
+  unfolding sizeIn trimmed
+  shorn-is = ap (λ l. exactSize (shorn blank l)) (span-rest w)
 
-  one : length v ≡ 1 → sizeIn v ≡ cond (eqb (getD v 0 0) 49) 1 (cond (eqb (getD v 0 0) 50) 2 (cond (eqb (getD v 0 0) 52) 4 (cond (eqb (getD v 0 0) 56) 8 0)))
-  unfolding sizeIn lists-page
-  one = by v
-    where
-      by : (v : List ℕ) → length v ≡ 1 → sizeIn v ≡ cond (eqb (getD v 0 0) 49) 1 (cond (eqb (getD v 0 0) 50) 2 (cond (eqb (getD v 0 0) 52) 4 (cond (eqb (getD v 0 0) 56) 8 0)))
-      by [] h = absurd (omega arith)
-      by (b ∷ []) h = rw (and-true (eqb b 49), and-true (eqb b 50), and-true (eqb b 52), and-true (eqb b 56))
-      by (b ∷ c ∷ s) h = absurd (omega arith)
+  pub only-blanks : length v ≤ at → 0 ≡ sizeIn v
+  only-blanks h = sym (shorn-is ∙ (unfold exactSize shorn same in rw (drop-of-length-le v h)))
 
-  module _ (h : length v ≡ 1) where
-    pub is-one : getD v 0 0 ≡ 49 → 1 ≡ sizeIn v
-    is-one e = sym (one h ∙ rw e)
+  module _ (h : at < length v) {e : ℕ} (u : Span blank v (at + 1) e) where
+    first-stays : shorn blank (drop at v) ≡ getD v at 0 ∷ shorn blank (drop (at + 1) v)
+    first-stays = rw (drop-next v at h) (shorn-first blank (getD v at 0) (drop (at + 1) v) (unfold all in rw (span-stop w h)))
 
-    module _ (a : getD v 0 0 ≡ 49 → ⊥) where
-      pub is-two : getD v 0 0 ≡ 50 → 2 ≡ sizeIn v
-      is-two e = sym (one h ∙ rw e)
+    pub more-behind : e < length v → 0 ≡ sizeIn v
+    more-behind k =
+        longer (getD v at 0) (shorn blank (drop (at + 1) v)) (shorn-empty blank (drop (at + 1) v) ∙ sym (span-all u) ∙ ne-eqb e (length v) (λ z. omega arith))
+        ∙ sym (shorn-is ∙ ap exactSize first-stays)
 
-      module _ (b : getD v 0 0 ≡ 50 → ⊥) where
-        pub is-four : getD v 0 0 ≡ 52 → 4 ≡ sizeIn v
-        is-four e = sym (one h ∙ rw e)
+    pub one-stands : {r : ℕ} → length v ≤ e → r ≡ sizeOfByte (getD v at 0) → r ≡ sizeIn v
+    one-stands k f =
+        let none-left = shorn-all blank (drop (at + 1) v) (sym (span-all u) ∙ eq-eqb e (length v) (omega (arith, u .high))) in
+        f ∙ one-byte (getD v at 0) ∙ sym (shorn-is ∙ ap exactSize first-stays ∙ ap (λ l. exactSize (getD v at 0 ∷ l)) none-left)
 
-        module _ (c : getD v 0 0 ≡ 52 → ⊥) where
-          pub is-eight : getD v 0 0 ≡ 56 → 8 ≡ sizeIn v
-          is-eight e = sym (one h ∙ rw e)
-
-          pub is-none : (getD v 0 0 ≡ 56 → ⊥) → 0 ≡ sizeIn v
-          is-none e = sym (one h ∙ rw (ne-eqb (getD v 0 0) 49 a, ne-eqb (getD v 0 0) 50 b, ne-eqb (getD v 0 0) 52 c, ne-eqb (getD v 0 0) 56 e))
-
-pub ruleset sizes = (not-one, is-one, is-two, is-four, is-eight, is-none, needs)
+pub ruleset sizes = (only-blanks, more-behind, one-stands, needs)
 
 module _ (a : ℕ) (v codes : List ℕ) (exact : ℕ) where
   pub first-size : {r : ℕ} → a ≡ 9 → getD codes 9 0 ≡ 0 → r ≡ sizeIn v → r ≡ withExact a v codes exact

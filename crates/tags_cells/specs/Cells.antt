@@ -23,6 +23,10 @@ withCode a v codes = cond (isFirst a codes) (set codes a (codeOf a v)) codes
 unfoldable pub withAmount : ℕ → List ℕ → List ℕ → List ℕ → List ℕ
 withAmount a v codes amounts = cond (isFirst a codes) (set amounts a (amountOf a v)) amounts
 
+-- the size that one byte says
+unfoldable pub sizeOfByte : ℕ → ℕ
+sizeOfByte b = cond (eqb b 49) 1 (cond (eqb b 50) 2 (cond (eqb b 52) 4 (cond (eqb b 56) 8 0)))
+
 -- the exact size, which the first `size` says
 unfoldable pub withExact : ℕ → List ℕ → List ℕ → ℕ → ℕ
 withExact a v codes exact = cond (eqb a 9 && eqb (getD codes 9 0) 0) (sizeIn v) exact

@@ -1,11 +1,12 @@
 // What a tag's attributes say, noted by their numbers as they are met: for each of the ten names the code and the amount of its first value.
 
+use spans::blanks;
 use tags_values::hold;
 ghost use mathlib.Core.Path.{_≡_};
 ghost use Prim.Native.Nat.{_≤_};
 ghost use lib.ListN.{getD};
 ghost use Rattle.rules_judge.specs.Tables.{sizeIn};
-ghost use Rattle.tags_cells.specs.Cells.{isFirst, withCode, withAmount, withExact};
+ghost use Rattle.tags_cells.specs.Cells.{isFirst, withCode, withAmount, sizeOfByte, withExact};
 
 const SIZE: usize = 9;
 
@@ -38,15 +39,11 @@ pub fn note(value: &[u8], a: u8, codes: &mut [u8; 11], amounts: &mut [u64; 11])
     }
 }
 
-// The size that a text says exactly, or 0.
-fn size_in(value: &[u8]) -> u8
-    ensures { λ r. ⌜ r ≡ sizeIn (now (value .entry)) ⌝ }
+// The size that one byte says, or 0.
+fn size_of(b: u8) -> u8
+    ensures { λ r. ⌜ r ≡ sizeOfByte b ⌝ }
     ensures bounds { λ r. ⌜ r ≤ 8 ⌝ }
 {
-    if value.len() != 1 {
-        return 0;
-    }
-    let b = value[0];
     if b == b'1' {
         return 1;
     }
@@ -60,6 +57,21 @@ fn size_in(value: &[u8]) -> u8
         return 8;
     }
     0
+}
+
+// The size that a text says exactly, blanks at its ends aside, or 0.
+fn size_in(value: &[u8]) -> u8
+    ensures { λ r. ⌜ r ≡ sizeIn (now (value .entry)) ⌝ }
+    ensures bounds { λ r. ⌜ r ≤ 8 ⌝ }
+{
+    let at = blanks(value, 0);
+    if value.len() <= at {
+        return 0;
+    }
+    if blanks(value, at + 1) < value.len() {
+        return 0;
+    }
+    size_of(value[at])
 }
 
 // The exact size, where the value is that of the first `size`.

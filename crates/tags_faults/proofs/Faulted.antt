@@ -14,8 +14,8 @@ use lib.Signed.{ltZ}
 use lib.ListN.{getD, List·getD-eq-default}
 use Rattle.cdi.specs.Lists.{ascii, given, any, all, same, among, lists-page}
 use Rattle.cdi.specs.Faults.{Fault, fault, unless, before, lesser, least}
-use Rattle.cdi.specs.Pieces.{Attribute}
-use Rattle.cdi.specs.Numbers.{number, within}
+use Rattle.cdi.specs.Pieces.{Attribute, pieces-page}
+use Rattle.cdi.specs.Numbers.{trimmed, number, within, numbers-page}
 use Rattle.cdi.specs.Rows.{Form, fixed, range, size, formatting, AttributeRule, rows-page}
 use Rattle.cdi.specs.Rules.{attributeValue, isFormatting, rangeFaults, formFaults, ruleFaults, rulesFaults, known, attributeFaults, sizeText}
 use Rattle.cdi.proofs.Least.{least-append}
@@ -53,7 +53,7 @@ form-faults p (range lo hi) v = by (number v)
     by : (o : Option ℤ) → rangeFaults p (within lo hi) o ≡ codeFaults p (rangeCode lo hi o)
     by none = unfold rangeFaults rangeCode codeFaults in refl
     by (some z) = unfold rangeFaults rangeCode in told (within lo hi z) (ltZ z (pos 0))
-form-faults p (size ts) v = tested p 10 (omega arith) (among v (map ascii ts))
+form-faults p (size ts) v = tested p 10 (omega arith) (among (trimmed v) (map ascii ts))
 form-faults p formatting v = tested p 8 (omega arith) (isFormatting v)
 
 -- ── one rule ──
@@ -137,7 +137,7 @@ module _ (p : ℕ) {codes : List ℕ} {exact : ℕ} (s : List Attribute) (w : Co
       told n = ⊎-elim (λ (h : n < 1). rw (lt-ltb n 1 h, lt-leb 1 n h)) (λ (h : 1 ≤ n). rw (le-ltb n 1 h, le-leb 1 n h)) (lt-or-le n 1)
 
       by : (o : Option (List ℕ)) → attributeValue (ascii "size") s ≡ o → given o (unless (not (isRequired 10)) (fault 8 p)) (formFaults p (formOf 10)) ≡ faultsAt p (cond (ltb exact 1) 10 0)
-      by none e = let q : exact ≡ 1 = x ∙ (unfold tables-page lists-page in rw e) in rw q (unfold tables-page in refl)
+      by none e = let q : exact ≡ 1 = x ∙ (unfold tables-page lists-page pieces-page numbers-page in rw e) in rw q (unfold tables-page in refl)
       by (some v) e =
           let q : exact ≡ sizeIn v = x ∙ rw e in
           let f : formFaults p (formOf 10) v ≡ unless (leb 1 (sizeIn v)) (fault 10 p) = unfold formFaults rows-page tables-page in rw (int-size v) in

@@ -20,6 +20,7 @@ use Rattle.names.specs.Names.{attributeNumber}
 use Rattle.names.proofs.Positions.{attribute-high}
 use Rattle.pieces_cuts.specs.Places.{part, attributeOf, Next, Closes}
 use Rattle.pieces_attributes.proofs.Walking.{no-more, one-more, ahead, less, Closing, close-walk, last-one, another}
+use Rattle.rules_judge.proofs.Sized.{default-size}
 use Rattle.rules_judge.specs.Tables as T
 use Rattle.rules_judge.specs.Tables.{ruleAt, isOneOf, hasNumber, sizeIn, intSize, tables-page}
 use Rattle.tags_spots.specs.Spots.{placesOf, Tells}
@@ -396,12 +397,9 @@ module _ {e at : ℕ} {s : List ℕ} {i : ℕ} {codes amounts : List ℕ} {count
         and-true true = refl
         and-true false = refl
 
-        no-size : intSize [] ≡ 1
-        no-size = unfold lists-page tables-page sizeText attributeValue in refl
-
         size : cond (eqb (getD codes 9 0) 0) (intSize (attributes 0 (drop i s))) exact ≡ exact
         size = ⊎-elim
-            (λ (q : getD codes 9 0 ≡ 0). rw (q, none) (no-size ∙ sym (w .noted .no-size q)))
+            (λ (q : getD codes 9 0 ≡ 0). rw (q, none) (default-size ∙ sym (w .noted .no-size q)))
             (λ (q : getD codes 9 0 ≡ 0 → ⊥). rw (ne-eqb (getD codes 9 0) 0 q))
             (eq-or-ne (getD codes 9 0) 0)
 

@@ -9,7 +9,7 @@ use lib.IntN.{ℤ, pos}
 use lib.Signed.{ltZ}
 use Rattle.cdi.specs.Lists.{ascii, given, same, among}
 use Rattle.cdi.specs.Pieces.{Attribute}
-use Rattle.cdi.specs.Numbers.{number, within}
+use Rattle.cdi.specs.Numbers.{trimmed, number, within}
 use Rattle.cdi.specs.Rows.{Form, fixed, range, size, formatting}
 use Rattle.cdi.specs.Rules.{isFormatting}
 use Rattle.rules_judge.specs.Tables.{formOf}
@@ -33,7 +33,7 @@ form-codes (range lo hi) v = by (number v)
     by : (o : Option ℤ) → (1 ≤ rangeCode lo hi o) × ((rangeCode lo hi o < 3) ⊎ (8 ≤ rangeCode lo hi o))
     by none = unfold rangeCode in (omega arith, inr (omega arith))
     by (some z) = unfold rangeCode in told (within lo hi z) (ltZ z (pos 0))
-form-codes (size ts) v = by (among v (map ascii ts))
+form-codes (size ts) v = by (among (trimmed v) (map ascii ts))
   where
     by : (b : Bool) → (1 ≤ cond b 1 10) × ((cond b 1 10 < 3) ⊎ (8 ≤ cond b 1 10))
     by true = (omega arith, inl (omega arith))
@@ -67,7 +67,7 @@ form-high (range lo hi) v = by (number v)
     by : (o : Option ℤ) → rangeCode lo hi o ≤ 10
     by none = unfold rangeCode in omega arith
     by (some z) = unfold rangeCode in told (within lo hi z) (ltZ z (pos 0))
-form-high (size ts) v = by (among v (map ascii ts))
+form-high (size ts) v = by (among (trimmed v) (map ascii ts))
   where
     by : (b : Bool) → cond b 1 10 ≤ 10
     by true = omega arith

@@ -11,7 +11,7 @@ use lib.Signed.{ltZ}
 use Rattle.cdi.specs.Lists.{ascii, given, same, among}
 use Rattle.cdi.specs.Faults.{Fault, fault}
 use Rattle.cdi.specs.Pieces.{Attribute}
-use Rattle.cdi.specs.Numbers.{number, within}
+use Rattle.cdi.specs.Numbers.{trimmed, number, within}
 use Rattle.cdi.specs.Rows.{Form, fixed, range, size, formatting}
 use Rattle.cdi.specs.Rules.{isFormatting}
 use Rattle.names.specs.Names.{attributeNumber}
@@ -28,7 +28,7 @@ rangeCode lo hi (some z) = cond (within lo hi z) (cond (ltZ z (pos 0)) 2 1) 10
 unfoldable pub formCode : Form → List ℕ → ℕ
 formCode (fixed t) v = cond (same v (ascii t)) 1 8
 formCode (range lo hi) v = rangeCode lo hi (number v)
-formCode (size ts) v = cond (among v (map ascii ts)) 1 10
+formCode (size ts) v = cond (among (trimmed v) (map ascii ts)) 1 10
 formCode formatting v = cond (isFormatting v) 1 8
 
 -- the faults that a code stands for, at a place

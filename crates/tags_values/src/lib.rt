@@ -1,9 +1,9 @@
 // What an attribute's value is by the attribute's number: a code, which is 1 for a good value, 2 for a good one below zero, else the number of its
 // fault, and the amount that it says. A size is held against the range of a string's.
 
+use formatting::is_formatting;
 use numbers::Number;
 use numbers::Signed;
-use numbers::is_formatting;
 use numbers::read_number;
 use scan::same;
 use terms::MOST_DOWN;

@@ -11,9 +11,9 @@ use lib.IntN.{ℤ, pos, negsuc, negℤ, _-ℤ_, +ℤ-idl}
 use mir.Syntax.{w64}
 use mir.Val.{SFits, toZ}
 use mir.ValLaws.{toZ-pos}
-use Rattle.cdi.specs.Lists.{ascii, _>>=_, given, isEmpty, all, begins, strip, between}
-use Rattle.cdi.specs.Pieces.{Attribute, digit, decimal}
-use Rattle.cdi.specs.Numbers.{digits, number, within}
+use Rattle.cdi.specs.Lists.{ascii, _>>=_, given, between, lists-page}
+use Rattle.cdi.specs.Pieces.{Attribute, pieces-page}
+use Rattle.cdi.specs.Numbers.{number, within, numbers-page}
 use Rattle.cdi.specs.Rules.{attributeValue, natural, sizeText, sizeOf}
 use Rattle.cdi.specs.Plans.{offsetFits}
 use Rattle.cdi.specs.Planning.{numberOr, offsetOf}
@@ -59,7 +59,7 @@ module _ (n : ℕ) (h : n ≤ 2147483648) where
 -- ── the size ──
 
 one : number (ascii "1") ≡ some (pos 1)
-unfolding number strip begins digits isEmpty all digit between decimal
+unfolding numbers-page lists-page pieces-page
 one = refl
 
 sized : (o : Option (List ℕ)) → clipped 1 65535 (o >>= number) ≡ from-to 1 65535 1 (given (number (given o (ascii "1") (λ v. v))) 0 natural)

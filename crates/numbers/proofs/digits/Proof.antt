@@ -24,6 +24,7 @@ digits-spec =
     (λ c. search digit-loop)
     (λ c. search digit-loop)
     (λ c. search digit-loop)
+    (λ c κs. search digit-loop)
     (λ c. search digit-loop)
     (λ c. search digit-loop)
     (λ c. search digit-loop))

@@ -6,8 +6,8 @@ use Rattle.numbers.proofs.read_number.Tie as tie
 pub read-number-spec : {M : Type 1} → statement M
 read-number-spec =
     tie.close (tie.spec
-    (λ c. search signs)
-    (λ c. search needs)
+    (λ c κs. search needs)
+    (λ c κs. search needs)
     (λ c. search needs)
     (λ c. search needs)
     (λ c. search needs)
@@ -16,6 +16,6 @@ read-number-spec =
     (λ c. search needs)
     (λ c. search signs)
     (λ c κs. search needs)
-    (λ c. search signs)
     (λ c κs. search needs)
+    (λ c. search signs)
     (λ c. search signs))

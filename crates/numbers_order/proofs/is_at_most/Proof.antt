@@ -1,7 +1,7 @@
 use borrow.Author.Needs.{needs}
-use Rattle.numbers.proofs.Ranges.{order}
-use Rattle.numbers.proofs.is_at_most.Statement.{statement}
-use Rattle.numbers.proofs.is_at_most.Tie as tie
+use Rattle.numbers_order.proofs.Order.{order}
+use Rattle.numbers_order.proofs.is_at_most.Statement.{statement}
+use Rattle.numbers_order.proofs.is_at_most.Tie as tie
 
 pub is-at-most-spec : {M : Type 1} → statement M
 is-at-most-spec =

@@ -1,7 +1,7 @@
 use borrow.Author.Needs.{needs}
-use Rattle.numbers.proofs.Formats.{tails}
-use Rattle.numbers.proofs.is_tail.Statement.{statement}
-use Rattle.numbers.proofs.is_tail.Tie as tie
+use Rattle.formatting.proofs.Formats.{tails}
+use Rattle.formatting.proofs.is_tail.Statement.{statement}
+use Rattle.formatting.proofs.is_tail.Tie as tie
 
 pub is-tail-spec : {M : Type 1} → statement M
 is-tail-spec =

@@ -15,7 +15,7 @@ use Rattle.scan.specs.Spans.{ofClass, Span}
 use Rattle.scan.specs.declared.Class.the-variants.{Decimal}
 use Rattle.scan.proofs.Along.{rest}
 use Rattle.scan.proofs.Spans.{span-rest}
-use Rattle.numbers.specs.Formatting.{isFraction}
+use Rattle.formatting.specs.Formatting.{isFraction}
 
 -- one byte at the front, and what follows it
 strip-nothing : (x : ℕ) (s : List ℕ) → length s ≡ 0 → strip (x ∷ []) s ≡ none

@@ -1,7 +1,7 @@
 use borrow.Author.Needs.{needs}
-use Rattle.numbers.proofs.Formats.{formats}
-use Rattle.numbers.proofs.is_formatting.Statement.{statement}
-use Rattle.numbers.proofs.is_formatting.Tie as tie
+use Rattle.formatting.proofs.Formats.{formats}
+use Rattle.formatting.proofs.is_formatting.Statement.{statement}
+use Rattle.formatting.proofs.is_formatting.Tie as tie
 
 pub is-formatting-spec : {M : Type 1} → statement M
 is-formatting-spec =

@@ -1,7 +1,7 @@
 use borrow.Author.Needs.{needs}
-use Rattle.numbers.proofs.Formats.{formats}
-use Rattle.numbers.proofs.is_fraction.Statement.{statement}
-use Rattle.numbers.proofs.is_fraction.Tie as tie
+use Rattle.formatting.proofs.Formats.{formats}
+use Rattle.formatting.proofs.is_fraction.Statement.{statement}
+use Rattle.formatting.proofs.is_fraction.Tie as tie
 
 pub is-fraction-spec : {M : Type 1} → statement M
 is-fraction-spec =
