@@ -2,7 +2,7 @@
 
 use crate::description::{Data, Detail, IntDetail, Kind, Segment};
 use crate::number::{number, Number};
-use crate::rules::{attribute, bounds_to_test, child_elements, number_in, storable};
+use crate::rules::{attribute, bounds_to_test, child_elements, number_in, size_in, storable, FLOAT_SIZES, INT_SIZES};
 use crate::text::spelled;
 use crate::tree::{Child, Element};
 
@@ -58,10 +58,10 @@ fn string_detail(element: &Element) -> Detail {
 fn sort(element: &Element) -> Option<(Kind, i64, Detail)> {
     match element.name.as_slice() {
         b"group" => Some((Kind::Group, 0, Detail::None)),
-        b"int" => Some((Kind::Int, numeric(element, "size", 1), int_detail(element))),
+        b"int" => Some((Kind::Int, size_in(element, INT_SIZES)?, int_detail(element))),
         b"string" => Some((Kind::String, numeric(element, "size", 1), string_detail(element))),
         b"eventid" => Some((Kind::Eventid, 8, Detail::Eventid { map: child(element, "map").is_some() })),
-        b"float" => Some((Kind::Float, numeric(element, "size", 1), Detail::None)),
+        b"float" => Some((Kind::Float, size_in(element, FLOAT_SIZES)?, Detail::None)),
         _ => None,
     }
 }

@@ -1,7 +1,7 @@
 //! The table of elements and the faults against it: stages 8 to 10.
 //! Every fault is collected with its place; nothing inside an unknown element is judged.
 
-use crate::number::{number, Number};
+use crate::number::{number, without_blanks, Number};
 use crate::refusal::{least, refusal, Refusal};
 use crate::text::is_blank;
 use crate::tree::{Child, Element};
@@ -23,7 +23,11 @@ pub struct Entry {
 /// What an attribute's text must be.
 pub enum Value {
     Fixed(&'static str),
-    Number { least: i128, greatest: i128 },
+    Number {
+        least: i128,
+        greatest: i128,
+    },
+    /// One of these texts, blanks at both ends dropped.
     Size(&'static [&'static str]),
     Formatting,
 }
@@ -208,12 +212,19 @@ fn number_fault(text: &[u8], least: i128, greatest: i128) -> Option<u8> {
     }
 }
 
+/// The size that a text says: one of those listed, byte for byte once the blanks at both ends are dropped.
+fn listed_size(text: &[u8], sizes: &[&str]) -> Option<i64> {
+    let token = without_blanks(text);
+    let found = sizes.iter().find(|size| size.as_bytes() == token)?;
+    found.parse().ok()
+}
+
 /// The number of the fault of an attribute's text, if it has one.
-fn value_fault(value: &Value, text: &[u8]) -> Option<u8> {
+pub fn value_fault(value: &Value, text: &[u8]) -> Option<u8> {
     match value {
         Value::Fixed(fixed) => (fixed.as_bytes() != text).then_some(8),
         Value::Number { least, greatest } => number_fault(text, *least, *greatest),
-        Value::Size(sizes) => (!sizes.iter().any(|size| size.as_bytes() == text)).then_some(10),
+        Value::Size(sizes) => listed_size(text, sizes).is_none().then_some(10),
         Value::Formatting => (!is_formatting(text)).then_some(8),
     }
 }
@@ -222,6 +233,11 @@ fn value_fault(value: &Value, text: &[u8]) -> Option<u8> {
 pub fn attribute<'a>(element: &'a Element, name: &str) -> Option<&'a [u8]> {
     let found = element.attributes.iter().find(|attribute| attribute.name == name.as_bytes());
     found.map(|attribute| attribute.value.as_slice())
+}
+
+/// The size of an int or a float, 1 where it isn't given; none where it is no size.
+pub fn size_in(element: &Element, sizes: &[&str]) -> Option<i64> {
+    attribute(element, "size").map_or(Some(1), |text| listed_size(text, sizes))
 }
 
 /// The child elements of an element, in order.
@@ -258,7 +274,8 @@ struct Standing {
     wrong: bool,
 }
 
-fn find_row(entries: &'static [Entry], name: &[u8]) -> Option<(usize, &'static Row)> {
+/// The entry of a row that a child of this name has, and the child's own row.
+pub fn find_row(entries: &'static [Entry], name: &[u8]) -> Option<(usize, &'static Row)> {
     entries.iter().enumerate().find_map(|(index, entry)| {
         let row = entry.rows.iter().find(|row| row.name.as_bytes() == name)?;
         Some((index, *row))
@@ -442,14 +459,7 @@ fn bound<'a>(int: &'a Element, name: &str) -> Option<Option<(&'a Element, i128)>
 
 /// The bounds of an int, if its size, min and max have no fault but those of the bounds themselves.
 pub fn bounds_to_test(int: &Element) -> Option<Bounds<'_>> {
-    let size = match attribute(int, "size") {
-        None => 1,
-        Some(b"1") => 1,
-        Some(b"2") => 2,
-        Some(b"4") => 4,
-        Some(b"8") => 8,
-        Some(_) => return None,
-    };
+    let size = size_in(int, INT_SIZES)?;
     let min = bound(int, "min")?;
     let max = bound(int, "max")?;
     Some(Bounds {

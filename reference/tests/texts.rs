@@ -86,6 +86,21 @@ fn xml_characters() {
     }
 }
 
+/// A number is what the standard library reads as one, but for the blanks at its ends: all texts of up to four of these bytes.
+#[test]
+fn numbers_are_judged_as_the_standard_library_does() {
+    let bytes = b" \t\n+-07a\r";
+    let mut texts = vec![Vec::new()];
+    for _ in 0..4 {
+        texts = texts.iter().flat_map(|text| bytes.iter().map(move |byte| [&text[..], &[*byte]].concat())).collect();
+        for text in &texts {
+            let trimmed = std::str::from_utf8(text).unwrap().trim_matches([' ', '\t', '\n']);
+            let wanted = trimmed.parse().map_or(Number::Not, Number::Value);
+            assert_eq!(number(text), wanted, "{text:?}");
+        }
+    }
+}
+
 #[test]
 fn numbers() {
     assert_eq!(number(b"-0"), Number::Value(0));
@@ -96,7 +111,14 @@ fn numbers() {
     assert_eq!(number("9".repeat(30).as_bytes()), Number::Value(10i128.pow(30) - 1));
     assert_eq!(number("9".repeat(31).as_bytes()), Number::Huge);
     assert_eq!(number(format!("-{}", "9".repeat(60_000)).as_bytes()), Number::Huge);
-    for text in ["", "-", "--1", "+1", " 1", "1 ", "1-", "1.0", "٣", "-\n"] {
-        assert_eq!(number(text.as_bytes()), Number::Not, "{text}");
+    for text in ["+1", " 1", "1 ", "\t+01\n", "\n 1", "1\n\n"] {
+        assert_eq!(number(text.as_bytes()), Number::Value(1), "{text:?}");
+    }
+    assert_eq!(number(b" -1 "), Number::Value(-1));
+    assert_eq!(number(b"+0"), Number::Value(0));
+    assert_eq!(number(format!(" +{} ", "9".repeat(31)).as_bytes()), Number::Huge);
+    for text in ["", " ", "-", "+", " - ", "--1", "+-1", "+ 1", "1 1", "1-", "1+", "1.0", "٣", "-\n", "\r1", "\u{A0}1"]
+    {
+        assert_eq!(number(text.as_bytes()), Number::Not, "{text:?}");
     }
 }
