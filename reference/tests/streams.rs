@@ -1,12 +1,12 @@
 //! The streams of cases: frames that round-trip, shares of answers, and what small cases keep to.
 
-use reference::cases::reached::{labels as things, Reached};
+use reference::cases::reached::{accesses, labels as things, numbers, Reached};
 use reference::cases::stats::Shares;
 use reference::cases::{boundaries, is_small, Sort, Stream};
 use reference::plan::planned;
 use reference::table::plan;
 use reference::walk::{copy_out, steps_for, STEPS};
-use reference::{answer, frame, line, Case, Frames, Leaf};
+use reference::{answer, frame, line, Access, Case, Frames, Leaf};
 
 #[test]
 fn frames_round_trip() {
@@ -37,6 +37,8 @@ fn single_readings() {
     assert_eq!(piece("a]]>", 0), "malformed");
     assert_eq!(piece("<![CDATA[", 0), "unsupported");
     assert_eq!(told(Leaf::Number(b"-0".to_vec())), "number 0");
+    assert_eq!(told(Leaf::Number(b"\n +007\t".to_vec())), "number 7");
+    assert_eq!(told(Leaf::Number(b"+ 7".to_vec())), "number none");
     assert_eq!(told(Leaf::Number(b"18446744073709551616".to_vec())), "number large");
     assert_eq!(told(Leaf::Name(b"offset".to_vec())), "name 0 8");
 }
@@ -56,8 +58,7 @@ fn bad_frames() {
     assert_eq!(place(&frame(&Case::Plan { room: 40_001, text: Vec::new() })), Some(1));
     assert_eq!(place(&frame(&Case::Plan { room: 0, text: vec![0; 70_001] })), Some(9));
     assert_eq!(place(&frame(&Case::Locate { table: vec![0; 40_001], n: 0 })), Some(1));
-    let access =
-        reference::Access { text: Vec::new(), table: Vec::new(), n: 0, space: 0, first: 0, window: Vec::new() };
+    let access = Access { text: Vec::new(), table: Vec::new(), n: 0, space: 0, first: 0, window: Vec::new() };
     let mut sign = frame(&Case::WriteInteger { access, negative: true, magnitude: 1 });
     assert_eq!(place(&sign), None);
     let at = sign.len() - 9;
@@ -114,13 +115,31 @@ fn each_answer_has_its_share() {
     }
 }
 
-/// Each thing that a planner may read in a way of its own, by the independent program's reading.
+/// What the first cases of a stream reach.
+fn reached(sort: Sort, count: u64) -> Reached {
+    let stream = Stream::new(1, sort, false);
+    let mut reached = Reached::default();
+    (0..count).for_each(|index| reached.add(&stream.case(index)));
+    reached
+}
+
+/// Each thing that a planner may read in a way of its own, by the independent program's reading; of numbers with blanks and signs, shares.
 #[test]
 fn the_planning_stream_reaches_each_way() {
-    let stream = Stream::new(1, Sort::Plan, false);
-    let mut reached = Reached::default();
-    (0..20_000).for_each(|index| reached.add(&stream.case(index)));
+    let reached = reached(Sort::Plan, 20_000);
     for thing in things() {
+        assert!(reached.count(&thing) >= 20, "{thing}: {}", reached.count(&thing));
+    }
+    for (thing, percent) in [(numbers::ACCEPTED, 4), (numbers::PLANNED, 2), (numbers::REFUSED, 4)] {
+        assert!(reached.count(thing) >= 200 * percent, "{thing}: {}", reached.count(thing));
+    }
+}
+
+/// Writes and reads of ints whose size, bounds or properties have blanks or a plus.
+#[test]
+fn the_access_stream_turns_on_blanks_and_signs() {
+    let reached = reached(Sort::Access, 20_000);
+    for thing in accesses::labels() {
         assert!(reached.count(&thing) >= 20, "{thing}: {}", reached.count(&thing));
     }
 }
@@ -156,17 +175,67 @@ fn what_a_text_reaches() {
         ("<names>x</names>", "leaf: an unknown name that begins as a known one"),
         ("<int/><name>x</name>", "leaf: out of order"),
         ("<int><max></max></int>", "leaf: max empty"),
+        ("<int><max> +1</max></int>", "leaf: max with blanks or a plus"),
         ("<int><min>18446744073709551616</min></int>", "leaf: min out of range"),
         ("<int><map><relation><property> </property></relation></map></int>", "leaf: property not a number"),
         ("<int a='' b='' c=''/>", "3 attributes, names distinct, all unknown"),
     ] {
-        assert_eq!(shown(8, inside), [thing], "{inside}");
+        let shown: Vec<String> = shown(8, inside).into_iter().filter(|thing| !thing.contains("spelled")).collect();
+        assert_eq!(shown, [thing], "{inside}");
     }
     let double = ["first", "last"].map(|spot| format!("3 attributes, a known name twice, with the {spot}"));
     assert_eq!(shown(8, "<int size='1' b='' size='2'/>"), double);
     // Several ways at once, no end, or an unknown parent show none.
     for inside in ["<name a='' >x</name >", "<name>x<!--", "<name>x<", "<a><name>x</name></a>"] {
         assert!(shown(8, inside).is_empty(), "{inside}: {:?}", shown(8, inside));
+    }
+}
+
+/// What the numbers and sizes of one text show, without their sums.
+fn spelled(inside: &str) -> Vec<String> {
+    let sums = [numbers::ACCEPTED, numbers::PLANNED, numbers::REFUSED];
+    let shown = shown(8, inside).into_iter().filter(|thing| thing.contains("spelled: "));
+    shown.filter(|thing| !sums.contains(&thing.as_str())).collect()
+}
+
+#[test]
+fn what_a_number_reaches() {
+    for inside in ["<int offset='7'/>", "<int size='3'/>", "<int><max>7<!----></max></int>", "<a/><int offset=' '/>"] {
+        assert!(spelled(inside).is_empty(), "{inside}: {:?}", spelled(inside));
+    }
+    let ends = ["a space at an end", "a tab at an end", "a newline at an end"].map(|way| format!("spelled: {way}"));
+    for (inside, things) in [
+        ("<int offset='+7'/>", vec!["spelled: a plus without blanks", "spelled: offset"]),
+        ("<int size='2\t'/>", vec![&ends[1], "spelled: size of an int"]),
+        ("<int><min> -5</min></int>", vec![&ends[0], "spelled: a minus and blanks", "spelled: min"]),
+        (
+            "<string size='\n+07'/>",
+            vec![&ends[2], "spelled: a plus and blanks", "spelled: zeros behind a plus", "spelled: size of a string"],
+        ),
+    ] {
+        assert_eq!(spelled(inside), things, "{inside}");
+        let shown = shown(8, inside);
+        assert!(
+            [numbers::ACCEPTED, numbers::PLANNED].iter().all(|sum| shown.iter().any(|thing| thing == sum)),
+            "{inside}"
+        );
+    }
+    for (inside, fault, carrier) in [
+        ("<string size=' '/>", "blanks alone", "size of a string"),
+        ("<group replication='+'/>", "a sign alone", "replication"),
+        ("<group replication=' -'/>", "a sign alone in blanks", "replication"),
+        ("<int offset='+ 7'/>", "a blank behind the sign", "offset"),
+        ("<int offset='7 7'/>", "a blank between digits", "offset"),
+        ("<int offset='+ -7'/>", "two signs", "offset"),
+        ("<int offset='7+'/>", "a sign behind the digits", "offset"),
+        ("<int offset='\u{A0}7'/>", "other white space", "offset"),
+        ("<int><max> <?p?>7</max></int>", "blanks beside a comment or an instruction", "max"),
+        ("<int><default>7&#32;</default></int>", "blanks beside a reference", "default"),
+        ("<float size='+4'/>", "a size with a sign", "size of a float"),
+        ("<int size=' 04'/>", "a size with a leading zero", "size of an int"),
+    ] {
+        assert_eq!(spelled(inside), [fault, carrier].map(|what| format!("misspelled: {what}")), "{inside}");
+        assert!(shown(8, inside).contains(&numbers::REFUSED.to_string()), "{inside}");
     }
 }
 

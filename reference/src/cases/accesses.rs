@@ -7,7 +7,7 @@ use crate::plan::{planned, Planned};
 use crate::random::Random;
 use crate::walk::{copy_out, Met};
 
-use super::describe::{data, description, eventid, float, int, string, Measure};
+use super::describe::{data, description, eventid, float, int, maybe_dress, string, Measure};
 use super::markup::{content, segment, Node};
 use super::stats::label;
 use super::tables;
@@ -64,6 +64,7 @@ fn target(random: &mut Random, measure: &Measure) -> Target {
             last.push(focus);
         }
         node.push(last);
+        maybe_dress(random, &mut node);
         let odd = random.pick(&[0, 0, 10]);
         let mut text = content(random, &node, odd);
         text.push(0);

@@ -3,6 +3,7 @@
 use crate::random::Random;
 
 use super::markup::{root, segment, Item, Node};
+use super::spellings::dress;
 
 /// How large a description may become.
 #[derive(Debug, Clone, Copy)]
@@ -276,6 +277,17 @@ fn deep_segment(random: &mut Random, measure: &Measure) -> Node {
     segment(random.between(0, 255)).with("origin", random.between(50, 900)).holding(inner)
 }
 
+/// So many of a hundred descriptions have numbers with blanks and plus signs.
+const DRESSED: usize = 20;
+
+/// Spells some of a description's numbers with blanks and plus signs, now and then.
+pub fn maybe_dress(random: &mut Random, root: &mut Node) {
+    if random.chance(DRESSED) {
+        let percent = random.pick(&[10, 40, 100]);
+        dress(random, root, percent);
+    }
+}
+
 /// A whole description; most of them are accepted, some leave the addresses.
 pub fn description(random: &mut Random, measure: &Measure) -> Node {
     let mut root = root();
@@ -298,5 +310,6 @@ pub fn description(random: &mut Random, measure: &Measure) -> Node {
         let node = deep_segment(random, measure);
         root.push(node);
     }
+    maybe_dress(random, &mut root);
     root
 }

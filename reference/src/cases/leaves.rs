@@ -6,6 +6,7 @@ use crate::random::Random;
 use crate::text::LAST_END;
 
 use super::damage::{TOKENS, VALUES};
+use super::spellings::{dressed, misspelled};
 
 const BLANKS: [&str; 6] = ["", " ", "\t", "\n", "  ", " \n\t"];
 
@@ -138,18 +139,50 @@ fn piece(random: &mut Random) -> Leaf {
     Leaf::Piece { content: [before, behind].concat(), place }
 }
 
-fn digits(random: &mut Random) -> Leaf {
-    if random.chance(30) {
-        return Leaf::Number(random.pick(&VALUES).as_bytes().to_vec());
-    }
-    let count = random.pick(&[0, 1, 2, 3, 18, 19, 20, 21, 40]);
-    let mut text = random.pick(&["", "-", "-", "+", " ", "00"]).to_string();
-    for _ in 0..count {
+/// Bytes beside the digits, the signs and the blanks, and other white space.
+#[rustfmt::skip]
+const NEAR: [&[u8]; 18] = [
+    b"/", b":", b"*", b",", b".", b"!", b"\x08", b"\x0B", b"\x0C", b"\r", b"\x1F", b"\0", b"\xA0", b"\x85",
+    b"\xC2\xA0", b"\xE2\x80\x83", b"\xEF\xBB\xBF", b"\xEF\xBC\x8B",
+];
+
+/// Digits or none, perhaps behind a minus or zeros.
+fn bare_number(random: &mut Random) -> String {
+    let mut text = random.pick(&["", "-", "-", "00"]).to_string();
+    for _ in 0..random.pick(&[0, 1, 1, 2, 3, 18, 19, 20, 21, 40]) {
         text.push((b'0' + random.below(10) as u8) as char);
     }
+    text
+}
+
+/// A number in as many blanks as a text may have, or in fewer.
+fn far_apart(random: &mut Random) -> Vec<u8> {
+    let blanks = |random: &mut Random| random.pick(&[" ", "\n", "\t"]).repeat(random.below(LAST_END / 2));
+    let number = random.pick(&["7", "+7", "-7", "7 7", "+ 7", "+", ""]);
+    format!("{}{number}{}", blanks(random), blanks(random)).into_bytes()
+}
+
+fn number(random: &mut Random, turn: u64) -> Leaf {
+    if turn.is_multiple_of(200) {
+        return Leaf::Number(far_apart(random));
+    }
+    if random.chance(25) {
+        return Leaf::Number(random.pick(&VALUES).as_bytes().to_vec());
+    }
+    let bare = bare_number(random);
+    let text = match random.below(10) {
+        0..=2 => bare,
+        3..=7 => dressed(random, &bare),
+        _ => misspelled(random, &bare),
+    };
     let mut bytes = text.into_bytes();
-    if random.chance(15) {
-        damage(random, &mut bytes);
+    match random.below(20) {
+        0..=2 => damage(random, &mut bytes),
+        3 | 4 => {
+            let place = random.below(bytes.len() + 1);
+            bytes.splice(place..place, random.pick(&NEAR).iter().copied());
+        }
+        _ => {}
     }
     Leaf::Number(bytes)
 }
@@ -250,7 +283,7 @@ fn some_name(random: &mut Random) -> Leaf {
 /// Case number `index`: half of them are pieces.
 pub fn case(random: &mut Random, index: u64) -> Case {
     Case::Leaf(match index % 10 {
-        0 => digits(random),
+        0 => number(random, index / 10),
         1 => match index / 10 % 4 {
             0 => faulty_run(random, index / 40),
             1 => long_run(random),

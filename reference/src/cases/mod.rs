@@ -9,6 +9,7 @@ pub mod leaves;
 pub mod markup;
 pub mod reached;
 pub mod shapes;
+pub mod spellings;
 pub mod stats;
 pub mod tables;
 pub mod texts;
@@ -33,7 +34,7 @@ pub enum Sort {
 /// One case in so many is a boundary case.
 const BOUNDARY_EVERY: u64 = 4;
 /// So many of a hundred random planning cases are of the shapes that a planner may read in a way of their own.
-const SHAPED: usize = 17;
+const SHAPED: usize = 18;
 
 pub struct Stream {
     seed: u64,

@@ -5,8 +5,9 @@ use crate::random::Random;
 use crate::text::FIRST_LINE;
 
 use super::damage::{by_byte, by_token, structure, NAMES, TOKENS, VALUES};
-use super::describe::{description, Measure};
+use super::describe::{description, maybe_dress, Measure};
 use super::markup::{content, root, segment, Item, Node};
+use super::spellings::{misspell, Rule};
 
 /// How often a generator tries to reach what it aims at.
 const TRIES: usize = 60;
@@ -53,7 +54,8 @@ pub fn ended(random: &mut Random, mut content: Vec<u8>) -> Vec<u8> {
 
 /// A description, as markup and as content.
 fn described(random: &mut Random, measure: &Measure) -> (Node, Vec<u8>) {
-    let node = description(random, measure);
+    let mut node = description(random, measure);
+    maybe_dress(random, &mut node);
     let odd = oddness(random);
     let content = content(random, &node, odd);
     (node, content)
@@ -184,18 +186,24 @@ fn restructured(random: &mut Random, measure: &Measure, changes: usize) -> Vec<u
     content(random, &node, odd)
 }
 
+#[rustfmt::skip]
+const SCRAMBLED: [&str; 20] = [
+    "2", "1", "-1", "127", "128", "-128", "-129", "255", "256", "-0", "x", "", "1<b/>", " 2", "+1", "\t-1 ", "+128",
+    " 255\n", "+ 1", "+0",
+];
+
 /// An int whose children stand in any order and number, with values near its bounds.
 fn scrambled_int(random: &mut Random) -> Vec<u8> {
     let mut int = Node::new("int");
     if random.chance(50) {
-        int = int.with("size", random.pick(&["1", "1", "2", "4", "8", "3"]));
+        int = int.with("size", random.pick(&["1", "1", "2", "4", "8", "3", " 2", "1\n", "+1"]));
     }
     if random.chance(15) {
         int = int.with(random.pick(&["offset", "a"]), random.pick(&VALUES));
     }
     for _ in 0..random.below(7) {
         let name = random.pick(&["min", "max", "min", "max", "name", "description", "default", "map", "a"]);
-        let value = random.pick(&["2", "1", "-1", "127", "128", "-128", "-129", "255", "256", "-0", "x", "", "1<b/>"]);
+        let value = random.pick(&SCRAMBLED);
         let mut child = Node::text(name, if name == "map" { "" } else { value });
         if random.chance(8) {
             child = child.with("a", "");
@@ -205,10 +213,15 @@ fn scrambled_int(random: &mut Random) -> Vec<u8> {
     content(random, &root().holding(segment(1).holding(int)), 0)
 }
 
+/// A description in which most optional children and attributes stand, unless it is to be small.
+fn full_description(random: &mut Random, measure: &Measure) -> Node {
+    let full = Measure { full: measure.full.max(60), ..*measure };
+    description(random, if measure.data < 10 { measure } else { &full })
+}
+
 /// A description in which the values of some attributes and texts lie on an edge.
 fn revalued(random: &mut Random, measure: &Measure) -> Vec<u8> {
-    let full = Measure { full: measure.full.max(60), ..*measure };
-    let mut node = description(random, if measure.data < 10 { measure } else { &full });
+    let mut node = full_description(random, measure);
     for _ in 0..1 + random.below(3) {
         let chosen = random.below(node.elements());
         let Some(element) = node.element_mut(chosen) else { continue };
@@ -223,6 +236,16 @@ fn revalued(random: &mut Random, measure: &Measure) -> Vec<u8> {
             element.attributes.retain(|attribute| attribute.0 != name);
             element.attributes.push((name.to_string(), value));
         }
+    }
+    let odd = oddness(random);
+    content(random, &node, odd)
+}
+
+/// A description with a number or a size, or two, that blanks and signs make none.
+fn respelled(random: &mut Random, measure: &Measure, rule: Rule) -> Vec<u8> {
+    let mut node = full_description(random, measure);
+    for _ in 0..random.pick(&[1, 1, 2]) {
+        misspell(random, &mut node, rule);
     }
     let odd = oddness(random);
     content(random, &node, odd)
@@ -329,6 +352,8 @@ fn try_aimed(random: &mut Random, measure: &Measure, number: u8) -> Vec<u8> {
             let changes = 1 + random.below(3);
             restructured(random, measure, changes)
         }
+        9 if random.chance(40) => respelled(random, measure, Rule::Number),
+        10 if random.chance(30) => respelled(random, measure, Rule::Size),
         9 | 10 => revalued(random, measure),
         11 => far(random, measure),
         _ => crowded(random, measure),

@@ -2,7 +2,7 @@
 
 use super::super::markup::{plain, segment, Node};
 use super::super::texts::nested;
-use super::{cdi, cdi_with, content_of, copies, int_with, raw_text, root_tag};
+use super::{cdi, cdi_with, content_of, copies, int_with, map_of, raw_text, root_tag};
 use crate::access::Access;
 use crate::answer::Case;
 use crate::plan::planned;
@@ -63,23 +63,26 @@ fn integers() -> Vec<Case> {
     cases
 }
 
-fn map_of(properties: &[&str]) -> Node {
-    let mut map = Node::new("map");
-    for property in properties {
-        map.push(Node::new("relation").holding(Node::text("property", property)).holding(Node::text("value", "v")));
-    }
-    map
+/// An int of two bytes from -9 to 300 with a map, and the same with blanks and signs in its numbers.
+fn mapped_ints() -> [Node; 2] {
+    let bare = int_with("2", Some(-9), Some(300)).holding(map_of(&["007", "-0", "-9", "300", "0301", "7"]));
+    let dressed = Node::new("int")
+        .with("size", "\t2 ")
+        .holding(Node::text("min", " -9\n"))
+        .holding(Node::text("max", "+300 "))
+        .holding(map_of(&[" +7 ", " -0", "\n-9\t", "+0300", "+0301 "]));
+    [bare, dressed]
 }
 
 fn maps() -> Vec<Case> {
     let mut cases = Vec::new();
-    let mapped =
-        access_to(&int_with("2", Some(-9), Some(300)).holding(map_of(&["007", "-0", "-9", "300", "0301", "7"])), 0);
-    for value in [7, 0, -9, 300, 301, 8, -10, 1] {
-        cases.push(write_integer(mapped.clone(), value));
-    }
-    for window in [[0, 7], [0, 0], [0xFF, 0xF7], [1, 0x2D], [0, 8]] {
-        cases.push(Case::Read { access: Access { window: window.to_vec(), ..mapped.clone() } });
+    for mapped in mapped_ints().map(|int| access_to(&int, 0)) {
+        for value in [7, 0, -9, 300, 301, 8, -10, 1] {
+            cases.push(write_integer(mapped.clone(), value));
+        }
+        for window in [[0, 7], [0, 0], [0xFF, 0xF7], [1, 0x2D], [0, 8]] {
+            cases.push(Case::Read { access: Access { window: window.to_vec(), ..mapped.clone() } });
+        }
     }
     let empty = access_to(&Node::new("int").holding(map_of(&[])), 0);
     cases.push(write_integer(empty.clone(), 0));
@@ -301,6 +304,28 @@ fn orders() -> Vec<Case> {
     cases
 }
 
+/// Blanks and signs: zero behind either makes no int signed, a string's size has them, its properties keep them.
+fn spellings() -> Vec<Case> {
+    let mut cases = Vec::new();
+    for min in [" -5 ", "+0", " -0", "\n+5"] {
+        let access = access_to(&Node::new("int").holding(Node::text("min", min)), 0);
+        for value in [-6, -5, -1, 0, 4, 5, 127, 128, 255] {
+            cases.push(write_integer(access.clone(), value));
+        }
+        for byte in [0, 4, 5, 0x7F, 0x80, 0xFA, 0xFB, 0xFF] {
+            cases.push(Case::Read { access: Access { window: vec![byte], ..access.clone() } });
+        }
+    }
+    let string = access_to(&Node::new("string").with("size", " +05\n").holding(map_of(&[" +7 ", "8"])), 0);
+    for value in [&b" +7 "[..], b"7", b"+7", b"8", b" 8", b" +7  "] {
+        cases.push(Case::WriteText { access: string.clone(), value: value.to_vec() });
+        let mut window = value.to_vec();
+        window.resize(5, 0);
+        cases.push(Case::Read { access: Access { window, ..string.clone() } });
+    }
+    cases
+}
+
 /// A string of the greatest size, and a window as long.
 fn long_strings() -> Vec<Case> {
     let access = access_to(&Node::new("string").with("size", 65_535), 0);
@@ -339,5 +364,5 @@ fn long_strings() -> Vec<Case> {
 
 /// The boundary cases of writing and reading.
 pub fn of_access() -> Vec<Case> {
-    [integers(), maps(), texts(), windows(), orders(), long_strings()].into_iter().flatten().collect()
+    [integers(), maps(), texts(), spellings(), windows(), orders(), long_strings()].into_iter().flatten().collect()
 }

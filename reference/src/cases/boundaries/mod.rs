@@ -1,7 +1,8 @@
-//! Fixed cases at every boundary of document 01, cycled through by every stream.
+//! Fixed cases at every boundary of document 01 and of request R-1, cycled through by every stream.
 
 mod accesses;
 mod plans;
+mod spellings;
 mod tables;
 
 pub use accesses::of_access;
@@ -52,6 +53,15 @@ pub(super) fn int_with(size: &str, min: Option<i128>, max: Option<i128>) -> Node
         node.push(Node::text("max", &max.to_string()));
     }
     node
+}
+
+/// A map with these properties.
+pub(super) fn map_of(properties: &[&str]) -> Node {
+    let mut map = Node::new("map");
+    for property in properties {
+        map.push(Node::new("relation").holding(Node::text("property", property)).holding(Node::text("value", "v")));
+    }
+    map
 }
 
 /// The root's start tag.

@@ -3,7 +3,7 @@
 use super::super::damage::TOKENS;
 use super::super::markup::{plain, root, segment, Node};
 use super::super::texts::{nested, nested_groups};
-use super::{cdi, cdi_with, content_of, copies, int_with, raw_text, root_tag};
+use super::{cdi, cdi_with, content_of, copies, int_with, map_of, raw_text, root_tag, spellings};
 use crate::answer::Case;
 use crate::rules::{SCHEMA_INSTANCE, SCHEMA_LOCATION};
 use crate::text::FIRST_LINE;
@@ -323,6 +323,12 @@ fn number_texts() -> Vec<Case> {
         "+1",
         "1-",
         "\n",
+        " 1 <!---->",
+        "<!-- --> 1",
+        " <?p?>1",
+        "&#32;1",
+        "1&#10;",
+        "\t1<a/>",
         "12345678901234567890123456789012345678901",
         "-00000000000000000000000000000000000000000001",
     ];
@@ -332,12 +338,8 @@ fn number_texts() -> Vec<Case> {
         for name in ["min", "max", "default"] {
             cases.push(plan_node(&cdi_with(int().holding(Node::text(name, value)))));
         }
-        let map = |value: &str| {
-            Node::new("map")
-                .holding(Node::new("relation").holding(Node::text("property", value)).holding(Node::text("value", "v")))
-        };
-        cases.push(plan_node(&cdi_with(int().holding(map(value)))));
-        cases.push(plan_node(&cdi_with(Node::new("eventid").holding(map(value)))));
+        cases.push(plan_node(&cdi_with(int().holding(map_of(&[value])))));
+        cases.push(plan_node(&cdi_with(Node::new("eventid").holding(map_of(&[value])))));
         cases.push(plan_node(&cdi_with(Node::new("float").with("size", "4").holding(Node::text("min", value)))));
     }
     cases
@@ -476,6 +478,7 @@ pub fn of_plan() -> Vec<Case> {
         attributes(),
         bounds(),
         number_texts(),
+        spellings::of_plan(),
         markup(),
         elements(),
         counts(),

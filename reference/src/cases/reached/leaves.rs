@@ -1,10 +1,11 @@
 //! Elements of text only that are plain, and those that aren't in exactly one way. Plain is one that stands in turn, has no attributes, holds
-//! nothing or one run of text without `>`, is a good number where one is asked, and whose tags have no blanks.
+//! nothing or one run of text without `>`, is a good number without blanks and plus where one is asked, and whose tags have no blanks.
 
 use super::Read;
+use crate::cases::spellings::is_bare;
 use crate::number::{number, Number};
 use crate::pieces::{Kind, Piece};
-use crate::rules::{Content, Entry, Row, CDI, GREATEST_NUMBER, LEAST_NUMBER};
+use crate::rules::{find_row, Content, Entry, Row, CDI, GREATEST_NUMBER, LEAST_NUMBER};
 use crate::text::is_blank;
 use crate::tree::DEPTH;
 
@@ -33,17 +34,17 @@ const WAYS: [&str; 16] = [
     "text of blanks",
 ];
 
-/// The names of elements that must be numbers, and the ways in which they may be none.
+/// The names of elements that must be numbers, and the ways in which they may be no plain ones.
 const NUMBERS: [&str; 4] = ["min", "max", "default", "property"];
-const FAULTS: [&str; 3] = ["not a number", "out of range", "empty"];
+const OF_NUMBERS: [&str; 4] = ["not a number", "out of range", "empty", "with blanks or a plus"];
 
-fn of_number(name: &str, fault: &str) -> String {
-    format!("{name} {fault}")
+fn of_number(name: &str, way: &str) -> String {
+    format!("{name} {way}")
 }
 
 /// All that is counted here.
 pub fn labels() -> Vec<String> {
-    let numbers = NUMBERS.iter().flat_map(|name| FAULTS.map(|fault| of_number(name, fault)));
+    let numbers = NUMBERS.iter().flat_map(|name| OF_NUMBERS.map(|way| of_number(name, way)));
     let others = [PLAIN].into_iter().chain(WAYS).chain([UNKNOWN, DEEP, MANY]);
     others.map(str::to_string).chain(numbers).map(|way| format!("leaf: {way}")).collect()
 }
@@ -63,11 +64,6 @@ fn entries_of(row: &'static Row) -> &'static [Entry] {
 
 fn holds_text_only(row: &Row) -> bool {
     !matches!(row.content, Content::Children(_))
-}
-
-fn find(entries: &'static [Entry], name: &[u8]) -> Option<(usize, &'static Row)> {
-    let rows = entries.iter().enumerate().flat_map(|(index, entry)| entry.rows.iter().map(move |row| (index, *row)));
-    rows.into_iter().find(|(_, row)| row.name.as_bytes() == name)
 }
 
 /// An element of text only whose start tag is the first of these pieces.
@@ -116,13 +112,15 @@ impl Leaf<'_> {
     }
 
     fn number(&mut self, text: &[u8]) {
-        let fault = match number(text) {
+        let way = match number(text) {
             _ if text.is_empty() => "empty",
             Number::Not => "not a number",
-            Number::Value(value) if (LEAST_NUMBER..=GREATEST_NUMBER).contains(&value) => return,
-            _ => "out of range",
+            Number::Value(value) if !(LEAST_NUMBER..=GREATEST_NUMBER).contains(&value) => "out of range",
+            Number::Huge => "out of range",
+            Number::Value(_) if is_bare(text) => return,
+            Number::Value(_) => "with blanks or a plus",
         };
-        self.way(&of_number(&String::from_utf8_lossy(self.name), fault));
+        self.way(&of_number(&String::from_utf8_lossy(self.name), way));
     }
 
     fn text(&mut self, text: &[u8]) {
@@ -233,7 +231,7 @@ impl Walk<'_> {
     fn start(&mut self, at: usize, name: &[u8], closed: bool) {
         let known = match self.open.last() {
             None => (name == CDI.name.as_bytes()).then_some((0, &CDI)),
-            Some(parent) => parent.row.and_then(|row| find(entries_of(row), name)),
+            Some(parent) => parent.row.and_then(|row| find_row(entries_of(row), name)),
         };
         let parent = self.open.last().and_then(|parent| parent.row);
         match (known, parent) {

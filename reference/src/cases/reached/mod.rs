@@ -1,7 +1,9 @@
-//! How often a stream of planning cases reaches what a planner may read in a way of its own, by the independent program's reading of each
-//! text. A case counts once for each thing that it shows.
+//! How often a stream of planning cases reaches what a planner may read in a way of its own, and one of writes and reads what turns on blanks and
+//! signs, by the independent program's reading of each text. A case counts once for each thing that it shows.
 
+pub mod accesses;
 pub mod leaves;
+pub mod numbers;
 pub mod rows;
 pub mod tags;
 
@@ -11,12 +13,13 @@ use crate::answer::Case;
 use crate::pieces::{cut, Piece};
 use crate::refusal::Refusal;
 use crate::text::{characters, content, first_line};
-use crate::tree::root;
+use crate::tree::{root, Element};
 
-/// The pieces of a content that passes stages 1 to 3, and its fault of stages 4 to 7.
+/// The pieces of a content that passes stages 1 to 3, and its root or its fault of stages 4 to 7.
 pub struct Read<'a> {
     pub content: &'a [u8],
     pub pieces: Vec<Piece>,
+    pub root: Option<Element>,
     pub fault: Option<Refusal>,
 }
 
@@ -25,7 +28,9 @@ impl<'a> Read<'a> {
         let content = content(text).ok()?;
         characters(content).ok()?;
         first_line(content).ok()?;
-        Some(Read { content, pieces: cut(content).0, fault: root(content).err() })
+        let root = root(content);
+        let fault = root.as_ref().err().copied();
+        Some(Read { content, pieces: cut(content).0, root: root.ok(), fault })
     }
 
     /// Whether planning comes to this place: behind the fault of these stages it needn't.
@@ -39,9 +44,9 @@ impl<'a> Read<'a> {
     }
 }
 
-/// All that is counted, in the order in which it is told.
+/// All that is counted of planning, in the order in which it is told.
 pub fn labels() -> Vec<String> {
-    [rows::labels(), tags::labels(), leaves::labels()].concat()
+    [rows::labels(), tags::labels(), leaves::labels(), numbers::labels()].concat()
 }
 
 /// How many cases show each thing.
@@ -52,13 +57,11 @@ pub struct Reached {
 
 impl Reached {
     pub fn add(&mut self, case: &Case) {
-        let Case::Plan { room, text } = case else { return };
-        let mut met: BTreeSet<String> = rows::met(*room, text).into_iter().collect();
-        if let Some(read) = Read::new(text) {
-            met.extend(tags::met(&read));
-            met.extend(leaves::met(&read));
-        }
-        for label in met {
+        let met = match case {
+            Case::Plan { room, text } => planning(*room, text),
+            _ => accesses::met(case),
+        };
+        for label in met.into_iter().collect::<BTreeSet<String>>() {
             *self.counts.entry(label).or_default() += 1;
         }
     }
@@ -67,11 +70,21 @@ impl Reached {
         self.counts.get(label).copied().unwrap_or(0)
     }
 
-    /// One line for each thing, or none where no case is one of planning.
+    /// One line for each thing, of planning and of writes and reads where the stream has such cases.
     pub fn lines(&self) -> Vec<String> {
-        if self.counts.is_empty() {
-            return Vec::new();
-        }
-        labels().iter().map(|label| format!("reached {} {label}", self.count(label))).collect()
+        let sorts = [labels(), accesses::labels()];
+        let shown = sorts.into_iter().filter(|labels| labels.iter().any(|label| self.count(label) > 0));
+        shown.flatten().map(|label| format!("reached {} {label}", self.count(&label))).collect()
     }
+}
+
+/// What a planning case shows.
+fn planning(room: u64, text: &[u8]) -> Vec<String> {
+    let mut met = rows::met(room, text);
+    if let Some(read) = Read::new(text) {
+        met.extend(tags::met(&read));
+        met.extend(leaves::met(&read));
+        met.extend(numbers::met(&read));
+    }
+    met
 }

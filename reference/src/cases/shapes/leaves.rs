@@ -3,10 +3,10 @@
 use super::super::damage::NAMES;
 use super::super::describe::{description, Measure, USUAL};
 use super::super::markup::{content, root, segment, Item, Node};
+use super::super::spellings::{dressed, holds_within_int, is_bare, is_numeric, misspelled};
 use super::super::texts::ended;
 use super::usual_room;
 use crate::answer::Case;
-use crate::number::{number, Number};
 use crate::random::Random;
 
 /// Descriptions in which most optional children stand.
@@ -14,7 +14,7 @@ const FULL: Measure = Measure { data: 10, full: 90, ..USUAL };
 
 const BLANKS: [&str; 5] = [" ", "\n", "\t", "  ", "\n\t "];
 const BEHIND: [&str; 8] = ["s", "2", "-a", ".", "x", "Version", ":", "_"];
-const NOT_NUMBERS: [&str; 10] = ["x", "-", "--1", "1 ", " 1", "+1", "1.0", "0x1", "1>2", "\n"];
+const NOT_NUMBERS: [&str; 8] = ["x", "-", "+", "--1", "1.0", "0x1", "1>2", "\n"];
 const BEYOND: [&str; 6] = [
     "18446744073709551616",
     "-9223372036854775809",
@@ -42,11 +42,10 @@ fn note(node: &Node, element: usize, within_int: bool, found: &mut Vec<Found>) {
                 [Item::Raw(raw)] => raw.clone(),
                 _ => String::new(),
             };
-            let numeric = within_int && ["min", "max", "default", "property"].contains(&child.name.as_str());
+            let numeric = is_numeric(&child.name, within_int);
             found.push(Found { element: next, name: child.name.clone(), text, numeric });
         }
-        let deeper = child.name == "int" || within_int && ["map", "relation"].contains(&child.name.as_str());
-        note(child, next, deeper, found);
+        note(child, next, holds_within_int(&child.name, within_int), found);
         next += child.elements();
     }
 }
@@ -69,10 +68,13 @@ fn other_name(random: &mut Random, name: &str) -> String {
     }
 }
 
-fn number_fault(random: &mut Random) -> String {
-    match random.below(4) {
+/// The number spelled in another way, beyond its range, or none.
+fn other_number(random: &mut Random, bare: &str) -> String {
+    match random.below(9) {
         0 => random.pick(&NOT_NUMBERS).to_string(),
-        1 => random.pick(&BEYOND).to_string(),
+        1 => misspelled(random, bare),
+        2 | 3 => random.pick(&BEYOND).to_string(),
+        4 => dressed(random, bare),
         _ => String::new(),
     }
 }
@@ -119,7 +121,7 @@ fn spoiled(random: &mut Random, found: &Found) -> String {
     let name = found.name.as_str();
     let text = plain_text(random, found);
     if found.numeric && random.chance(70) {
-        return format!("<{name}>{}</{name}>", number_fault(random));
+        return format!("<{name}>{}</{name}>", other_number(random, &text));
     }
     match random.below(16) {
         0 => format!("<{name}>{text}</{name}>").repeat(2),
@@ -153,9 +155,9 @@ fn disordered(random: &mut Random) -> Node {
     }
 }
 
-/// Whether it has this name and is a number, as it must be.
+/// Whether it has this name and is a number, as it must be, without blanks and plus.
 fn is_number(found: &Found, name: &str) -> bool {
-    found.numeric && found.name == name && number(found.text.as_bytes()) != Number::Not
+    found.numeric && found.name == name && is_bare(found.text.as_bytes())
 }
 
 /// A description with one to three such elements.

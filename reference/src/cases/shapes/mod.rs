@@ -11,8 +11,8 @@ use crate::random::Random;
 /// A case of one of these shapes.
 pub fn case(random: &mut Random) -> Case {
     match random.below(100) {
-        0..=28 => rows::case(random),
-        29..=76 => tags::case(random),
+        0..=26 => rows::case(random),
+        27..=72 => tags::case(random),
         _ => leaves::case(random),
     }
 }
