@@ -17,7 +17,7 @@ const fn refused(name: &'static str, text: fn(usize) -> Vec<u8>) -> Kind {
     Kind { name, text, accepted: false }
 }
 
-pub const KINDS: [Kind; 12] = [
+pub const KINDS: [Kind; 14] = [
     accepted("an ordinary description", ordinary),
     accepted("nests of 24 levels", nests),
     accepted("small elements on level 24", small),
@@ -25,6 +25,8 @@ pub const KINDS: [Kind; 12] = [
     accepted("maps", maps),
     accepted("comments", comments),
     accepted("blanks", blanks),
+    accepted("blanks around a number of an attribute", spaced_offset),
+    accepted("blanks around a number of an element", spaced_min),
     accepted("references", references),
     refused("tags of 16 attributes", sixteen),
     refused("one tag, distinct names", wide),
@@ -98,6 +100,21 @@ fn comments(length: usize) -> Vec<u8> {
 
 fn blanks(length: usize) -> Vec<u8> {
     in_segment(length, |n| if n % 32 == 31 { "\n" } else { " " }.to_string())
+}
+
+/// One number in as many blanks as fit, in a segment.
+fn spaced(length: usize, before: &str, behind: &str) -> Vec<u8> {
+    let (head, tail) = (format!("{HEAD}{SEGMENT}{before}"), format!("{behind}{END}"));
+    let blanks = " ".repeat(length.saturating_sub(head.len() + tail.len() + 1) / 2);
+    format!("{head}{blanks}4{blanks}{tail}").into_bytes()
+}
+
+fn spaced_offset(length: usize) -> Vec<u8> {
+    spaced(length, "<int offset=\"", "\"/>")
+}
+
+fn spaced_min(length: usize) -> Vec<u8> {
+    spaced(length, "<int><min>", "</min></int>")
 }
 
 fn references(length: usize) -> Vec<u8> {

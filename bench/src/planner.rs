@@ -1,4 +1,4 @@
-//! A plain planner: a description's text in, its table or a refusal out, by document 01. It is written to be timed beside the proved
+//! A plain planner: a description's text in, its table or a refusal out, by document 01 and R-1. It is written to be timed beside the proved
 //! one, shares nothing with it, and trusts Rust's own tests of indices. Stages 1 to 3 look over the bytes, and one pass over the pieces
 //! does the rest: a fault of stages 4 to 7 ends it, the least fault of stages 8 to 10 and what the walk comes to are kept for its end.
 

@@ -198,9 +198,10 @@ impl<'a> Given<'a, '_> {
         }
     }
 
-    /// A size that is one of these texts of one digit, or 0.
+    /// A size that is one of these texts of one digit, blanks at its ends aside, or 0.
     fn size(&mut self, text: &[u8], sizes: &[u8]) -> i64 {
-        match text {
+        let token = if text.len() == 1 { text } else { trimmed(text) };
+        match token {
             [digit] if sizes.contains(digit) => (digit - b'0') as i64,
             _ => {
                 self.blame(10);
@@ -275,7 +276,37 @@ enum Number {
     Value(i128),
 }
 
+/// The text without blanks at its ends.
+fn trimmed(mut text: &[u8]) -> &[u8] {
+    while let [b' ' | b'\t' | b'\n', rest @ ..] = text {
+        text = rest;
+    }
+    while let [rest @ .., b' ' | b'\t' | b'\n'] = text {
+        text = rest;
+    }
+    text
+}
+
+/// A number; most have neither blanks nor a plus, and are read at once.
 fn number(text: &[u8]) -> Number {
+    match bare_number(text) {
+        Number::Not => spaced_number(text),
+        number => number,
+    }
+}
+
+/// A number that may have blanks at its ends and a plus.
+#[cold]
+fn spaced_number(text: &[u8]) -> Number {
+    match trimmed(text) {
+        [b'+', b'-', ..] => Number::Not,
+        [b'+', digits @ ..] => bare_number(digits),
+        text => bare_number(text),
+    }
+}
+
+/// A number without blanks and plus.
+fn bare_number(text: &[u8]) -> Number {
     let (negative, digits) = match text {
         [b'-', digits @ ..] => (true, digits),
         _ => (false, text),
