@@ -1,7 +1,7 @@
 -- What writing and reading promise, of any call that meets the contract of `write_integer`, `write_event`, `write_text` or `write_known`: v is the value,
 -- r the answer, and u the window's bytes afterwards.
 use mathlib.Core.Path.{_≡_, sym, ap, _∙_}
-use mathlib.Core.List.{List, _∷_, _++_}
+use mathlib.Core.List.{List}
 use mathlib.Core.Bool.{true}
 use Prim.Native.Nat.{ℕ, _+_, _≤_, _<_}
 use lib.IntN.{ℤ}
@@ -10,7 +10,6 @@ use Rattle.cdi.specs.Faults.{fault, accepted}
 use Rattle.cdi.specs.Access as A
 use Rattle.cdi.specs.Access.{Window, Value, settingOf, firstCause, writeCauses, stored, startIn, written, windowAfter, read}
 use Rattle.cdi.proofs.Quiet.{through}
-use Rattle.cdi.proofs.Zero.{NoZero, written-alike, window-alike, read-alike}
 use Rattle.cdi.proofs.Back as back
 use Rattle.cdi.proofs.Back.{SixtyFour, holding, refused-unchanged}
 use Rattle.cdi.proofs.Promises.{written-reads-back}
@@ -20,7 +19,6 @@ use Rattle.access_reading.specs.Told.{readingOf}
 use Rattle.access_writing.specs.declared.Written.{Written}
 use Rattle.access_writing.specs.declared.Written.the-variants.{Accepted, Refused}
 use Rattle.access_reading.specs.declared.Reading.{Reading}
-use Rattle.access.proofs.Once.{write-once, window-once}
 
 module _ (b : List ℕ) (t : List ℤ) (n space first : ℕ) (bytes : List ℕ) (v : Value) where
   abbrev w : Window
@@ -61,16 +59,3 @@ module _ (b : List ℕ) (t : List ℤ) (n space first : ℕ) (bytes : List ℕ) 
       pub reads-back : SixtyFour v → (q : Reading) → readingOf u q ≡ read b t n (windowOf space first u) → readingOf u q ≡ accepted (record { value = v; writable = true })
       unfolding holding
       reads-back x q z = z ∙ rw after (written-reads-back b t n w v x is-written)
-
--- ── bytes after the text's first zero change neither answer nor window ──
-
-module _ (c x y : List ℕ) (h : NoZero c) (l : length c ≤ 65535) (t : List ℤ) (n : ℕ) (w : Window) where
-  module _ (v : Value) where
-    pub answer-by-content : (r q : Written) → writtenOf r ≡ written (c ++ 0 ∷ x) t n w v → writtenOf q ≡ written (c ++ 0 ∷ y) t n w v → r ≡ q
-    answer-by-content r q e f = write-once (c ++ 0 ∷ y) t n w v r q (e ∙ written-alike c x y h l t n w v) f
-
-    pub window-by-content : (u o : List ℕ) → u ≡ windowAfter (c ++ 0 ∷ x) t n w v → o ≡ windowAfter (c ++ 0 ∷ y) t n w v → u ≡ o
-    window-by-content u o e f = window-once (c ++ 0 ∷ y) t n w v u o (e ∙ window-alike c x y h l t n w v) f
-
-  pub reading-by-content : (bytes : List ℕ) (r q : Reading) → readingOf bytes r ≡ read (c ++ 0 ∷ x) t n w → readingOf bytes q ≡ read (c ++ 0 ∷ y) t n w → readingOf bytes r ≡ readingOf bytes q
-  reading-by-content bytes r q e f = e ∙ read-alike c x y h l t n w ∙ sym f

@@ -32,7 +32,7 @@ mostOrigin = 2147483647
 abbrev pub mostReplication : ℕ
 mostReplication = 2147483647
 
--- "string: size 1 to 65,535"
+-- a string's "size 1 to 65,535"
 abbrev pub mostTextSize : ℕ
 mostTextSize = 65535
 

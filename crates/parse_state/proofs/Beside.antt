@@ -20,7 +20,7 @@ use Rattle.judges_state.specs.Decoded.{judgeOf, Placed}
 use Rattle.judges_state.specs.Steps.{faultsOf, enteredBy, leftBy, leafBy}
 use Rattle.judges_state.specs.declared.Judge.{Judge}
 use Rattle.judges_model.proofs.Answers.{child-entered, child-left}
-use Rattle.tally_tag.specs.Gauging as G
+use Rattle.tally_tag.specs.Tallying as G
 use Rattle.tally_tag.specs.Numbered.{numbersBy, enterBy, leaveBy, writtenBy}
 use Rattle.tally_tag.specs.declared.Tally.{Tally as Tallied}
 use Rattle.tally.proofs.Named.{enter-named, leave-named, written-named}

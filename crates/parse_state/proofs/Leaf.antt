@@ -20,7 +20,7 @@ use Rattle.rules_judge.specs.Parts.{isNumeric}
 use Rattle.judges_state.specs.Decoded.{saidOf, judgeOf}
 use Rattle.judges_state.specs.Steps.{leafBy}
 use Rattle.judges_model.proofs.Answers.{leaf-with-run, leaf-with-nothing}
-use Rattle.tally_tag.specs.Gauging as G
+use Rattle.tally_tag.specs.Tallying as G
 use Rattle.tally_tag.specs.Numbered.{numbersBy, segmentAt, dataAt, recordedBy, enterBy, leaveBy, writtenBy}
 use Rattle.tally_tag.specs.declared.Tally.{Tally as Tallied}
 use Rattle.tally_tag.specs.declared.Numbers.{Numbers}

@@ -8,7 +8,7 @@ use lib.ListN.{take, set}
 use lib.Seq.{sets}
 use Rattle.cdi.specs.Pieces.{Attribute}
 use Rattle.cdi.specs.Tree.{Nodes, end, element, other}
-use Rattle.tally_tag.specs.Gauging as G
+use Rattle.tally_tag.specs.Tallying as G
 use Rattle.parse_sums.specs.Sums.{enterOf, otherOf, leaveOf, writtenOf}
 use Rattle.parse_sums.specs.Folding.{Folded, folded, foldNodes}
 use Rattle.parse_sums.specs.declared.State.{State}

@@ -9,8 +9,8 @@ use Rattle.cdi.specs.Tree.{Nodes, end, element, other}
 use Rattle.cdi.specs.Planning.{describe}
 use Rattle.rules_judge.specs.Judging as J
 use Rattle.rules_judge.specs.declared.Judge.{Judge}
-use Rattle.tally_tag.specs.Gauging as G
-use Rattle.tally_tag.specs.Gauging.{Tallied, levelIn, isSegment, isGroup}
+use Rattle.tally_tag.specs.Tallying as G
+use Rattle.tally_tag.specs.Tallying.{Tallied, levelIn, isSegment, isGroup}
 use Rattle.parse_sums.specs.Sums.{enterOf, otherOf, leaveOf, writtenOf}
 use Rattle.parse_sums.specs.Folding.{Folded, foldNodes}
 use Rattle.parse_sums.specs.declared.State.{State}

@@ -8,7 +8,7 @@ use lib.IntN.{ℤ}
 use Rattle.cdi.specs.Pieces.{Attribute, Piece}
 use Rattle.rules_judge.specs.Judging as J
 use Rattle.rules_judge.specs.declared.Least.the-variants.{Nothing}
-use Rattle.tally_tag.specs.Gauging as G
+use Rattle.tally_tag.specs.Tallying as G
 use Rattle.parse_sums.specs.declared.State.{State}
 
 -- how many records a state counts: one at most for each element that was begun

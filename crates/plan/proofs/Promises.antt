@@ -1,6 +1,6 @@
 -- What planning promises, of any call that meets the contract of `plan`: r is its answer, t the table before it and u the table afterwards.
 use mathlib.Core.Path.{_≡_, refl, sym, ap, _∙_}
-use mathlib.Core.List.{List, [], _∷_, _++_}
+use mathlib.Core.List.{List, []}
 use mathlib.Core.Bool.{Bool, true, false}
 use mathlib.Core.Option.{Option, none, some}
 use mathlib.Core.Logic.{⊎-elim}
@@ -26,21 +26,10 @@ use Rattle.cdi.proofs.PlanOf.{length-table}
 use Rattle.cdi.proofs.Stages.{stages}
 use Rattle.scan.proofs.Tests.{lt-or-le}
 use Rattle.cdi.proofs.Room.{fits, fits-table, refuses-table, short-table}
-use Rattle.cdi.proofs.Zero.{NoZero, planned-alike, table-alike}
 use Rattle.cdi.proofs.Promises.{table-is-plan, table-locates, nth-is, nth-none}
 use Rattle.plan_stages.specs.declared.Planned.{Planned}
 use Rattle.plan_stages.specs.declared.Planned.the-variants.{Accepted, Refused}
 use Rattle.plan_stages.specs.Outlines.{answerOf}
-use Rattle.plan.proofs.Once.{plan-once}
-
--- ── bytes after the first zero change neither answer nor table ──
-
-module _ (c x y : List ℕ) (h : NoZero c) (l : length c ≤ 65535) (t : List ℤ) where
-  pub answer-by-content : (r q : Planned) → answerOf r ≡ planned (c ++ 0 ∷ x) t → answerOf q ≡ planned (c ++ 0 ∷ y) t → r ≡ q
-  answer-by-content r q e f = plan-once (c ++ 0 ∷ y) t r q (e ∙ planned-alike c x y h l t) f
-
-  pub table-by-content : (u v : List ℤ) → u ≡ tableAfter (c ++ 0 ∷ x) t → v ≡ tableAfter (c ++ 0 ∷ y) t → u ≡ v
-  table-by-content u v e f = e ∙ table-alike c x y h l t ∙ sym f
 
 -- ── accepted exactly where no stage has a fault ──
 

@@ -28,8 +28,8 @@ use Rattle.rules.proofs.Judged.{judged}
 use Rattle.tally_tag.specs.declared.Tally.{Tally}
 use Rattle.tally_tag.specs.declared.Leaves.{Leaves}
 use Rattle.tally_tag.specs.declared.Leaves.the-variants.{Never, At}
-use Rattle.tally_tag.specs.Gauging as G
-use Rattle.tally_tag.specs.Gauging.{Tallied}
+use Rattle.tally_tag.specs.Tallying as G
+use Rattle.tally_tag.specs.Tallying.{Tallied}
 use Rattle.tally.proofs.Tallied.{records-tallied, leaves-tallied, total-tallied, table-tallied}
 use Rattle.parse_sums.specs.declared.State.{State}
 use Rattle.parse_sums.specs.Sums.{atFirst}

@@ -21,8 +21,7 @@ use Rattle.cdi.specs.Plans.{placeOf, isPlan, segmentsOf, variableOf, locating}
 use Rattle.cdi.specs.Planning.{Description, described}
 use Rattle.cdi.specs.Access.{Window, Value, string, Setting, contentAt, exact, settingIn, settingOf, isInside, isFloat, firstCause, writeCauses, written, Reading, ownBytes, textIn, valueIn, readCauses, readFrom, read}
 use Rattle.cdi.proofs.Quiet.{impossible, same-refused, through}
-use Rattle.cdi.proofs.Signs.{number-same}
-use Rattle.cdi.proofs.PlanOf.{same-table}
+use Rattle.cdi.proofs.PlanOf.{same-table, table-itself}
 use Rattle.cdi.proofs.Back.{Passed, passed}
 use Rattle.cdi.proofs.Promises.{nth-is, nth-none, count-is}
 use Rattle.locate.specs.Answers.{toldOf}
@@ -43,11 +42,6 @@ use Rattle.promises.proofs.Terms as why
 use Rattle.promises.proofs.Terms.{AccessCause, variableAt}
 
 -- ── tables ──
-
-pub same-itself : (t : List ℤ) → sameTable t t ≡ true
-unfolding sameTable
-same-itself [] = refl
-same-itself (x ∷ t) = rw (number-same x) (same-itself t)
 
 another : (t u : List ℤ) → (t ≡ u → ⊥) → sameTable t u ≡ false
 another t u h = by (sameTable t u) refl
@@ -91,7 +85,7 @@ module _ (b : List ℕ) (t : List ℤ) (n : ℕ) where
     access-refused (why.text e) = rw (refused-text e)
     access-refused (why.table {d = d} e k q s) = rw (other-table e (another t (tableOf (d .segments)) k), q, s)
     access-refused (why.number {d = d} e k l q s) =
-        let h : sameTable t (tableOf (d .segments)) ≡ true = ap (λ x. sameTable t x) (sym k) ∙ same-itself t in
+        let h : sameTable t (tableOf (d .segments)) ≡ true = ap (λ x. sameTable t x) (sym k) ∙ table-itself t in
         rw (no-variable e h l, q, s)
     access-refused (why.variable e o) = rw e o
 
@@ -106,7 +100,7 @@ module _ (b : List ℕ) (t : List ℤ) (n : ℕ) where
             let y = other-table e q in
             let w : g ≡ fault 20 0 = cc in
             let v = number-is 20 0 (rw w at h) in
-            why.table e (λ k. false≢true (sym q ∙ ap (λ x. sameTable t x) (sym k) ∙ same-itself t)) (v .0) (v .1)
+            why.table e (λ k. false≢true (sym q ∙ ap (λ x. sameTable t x) (sym k) ∙ table-itself t)) (v .0) (v .1)
         tables {d} e true q {g} z h = ⊎-elim (λ l. let y = a-variable e q l in impossible (cc)) beyond (lt-or-le n (length (walk (d .segments))))
           where
             beyond : length (walk (d .segments)) ≤ n → AccessCause b t n Own m p

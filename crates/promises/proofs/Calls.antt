@@ -24,7 +24,7 @@ use Rattle.cdi.specs.Access.{Setting, contentAt, exact, settingIn, settingOf, i
 use Rattle.cdi.specs.Values.{withSign, padded}
 use Rattle.cdi.proofs.Tests.{both-right}
 use Rattle.cdi.proofs.Quiet.{impossible}
-use Rattle.cdi.proofs.PlanOf.{length-table}
+use Rattle.cdi.proofs.PlanOf.{length-table, table-itself}
 use Rattle.cdi.proofs.Room.{fits-table}
 use Rattle.cdi.proofs.Promises.{table-is-plan, table-decodes, table-locates, nth-is, nth-none, count-is}
 use Rattle.cdi.proofs.Back.{SixtyFour, Passed, passed, lies, good-text}
@@ -51,7 +51,6 @@ use Rattle.access.specs.Told.{startFor}
 use Rattle.access.proofs.Once.{fetch-once}
 use Rattle.access.proofs.Promises as access
 use Rattle.promises.proofs.Terms.{variableAt, numbersAt, echo}
-use Rattle.promises.proofs.Accesses.{same-itself}
 use Rattle.promises.proofs.Steps.{counted-described}
 
 -- ── batches ──
@@ -153,11 +152,11 @@ module _ (b : List ℕ) (t : List ℤ) {r : Planned} (answer : answerOf r ≡ pl
 
       setting-is : k < v → settingOf b plan k ≡ accepted setting
       unfolding settingOf exact settingIn
-      setting-is h = rw (described-is, plan-is, same-itself (tableOf (told c)), nth-is (told c) k o (omega (arith, variables-are)))
+      setting-is h = rw (described-is, plan-is, table-itself (tableOf (told c)), nth-is (told c) k o (omega (arith, variables-are)))
 
       no-setting : v ≤ k → settingOf b plan k ≡ refused (fault 21 0)
       unfolding settingOf exact settingIn
-      no-setting h = rw (described-is, plan-is, same-itself (tableOf (told c)), nth-none (told c) k (omega (arith, variables-are)))
+      no-setting h = rw (described-is, plan-is, table-itself (tableOf (told c)), nth-none (told c) k (omega (arith, variables-are)))
 
       -- where there is a setting, k is below the count
       found-below : (s : Setting) → settingOf b plan k ≡ accepted s → k < v

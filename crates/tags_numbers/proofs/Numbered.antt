@@ -29,7 +29,7 @@ use Rattle.tags_values.specs.Codes.{rangeCode, rangeAmount, codeIn, amountIn, C
 use Rattle.tags_values.proofs.Numbered.{numbered-named}
 use Rattle.extent.proofs.Signed.{read, read-is}
 use Rattle.tally_tag.specs.declared.Numbers.{Numbers}
-use Rattle.tally_tag.specs.Gauging.{from-to}
+use Rattle.tally_tag.specs.Tallying.{from-to}
 use Rattle.tally_tag.specs.Numbered.{Ranged, naturalIn, offsetIn, sizeBy, numbersBy}
 use Rattle.tally_tag.proofs.Attributes.{numbers-ranged, size-eventid, size-other, bare-are, bare-eventid, bare-other, minus-fits, minus-is, plain-is}
 use Rattle.tags_numbers.specs.declared.Given.{Given}

@@ -21,7 +21,7 @@ use Rattle.extent.specs.declared.Extent.{Extent}
 use Rattle.extent.proofs.Signed.{read, read-is}
 use Rattle.tally_tag.specs.declared.Numbers.{Numbers}
 use Rattle.tally_tag.specs.declared.Tally.{Tally as Known}
-use Rattle.tally_tag.specs.Gauging.{firstLeaving}
+use Rattle.tally_tag.specs.Tallying.{firstLeaving}
 use Rattle.tally_tag.specs.Numbered.{segmentAt, dataAt, groupAt, recordedBy, ownBy, leaveBy, kindBy, addressBy, widthBy, copiesBy, toldBy, recordBy, writtenBy}
 use Rattle.tags_numbers.specs.declared.Given.{Given}
 use Rattle.tags_numbers.specs.Given.{Bounded, givenBy, numbersOf}

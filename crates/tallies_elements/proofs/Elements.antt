@@ -15,7 +15,7 @@ use Rattle.extent.specs.Reach.{extent, byOffset, bySize, join, repeat, held}
 use Rattle.extent.specs.declared.Extent.{Extent}
 use Rattle.extent.proofs.Signed.{read, read-is}
 use Rattle.extent.proofs.Holding.{holds-all}
-use Rattle.tally_tag.specs.Gauging.{firstLeaving}
+use Rattle.tally_tag.specs.Tallying.{firstLeaving}
 use Rattle.tally_tag.specs.Numbered.{ownBy}
 use Rattle.tags_numbers.specs.declared.Given.{Given}
 use Rattle.tags_numbers.specs.Given.{Bounded, numbersOf}

@@ -2,7 +2,7 @@
 use mathlib.Core.Path.{_≡_, sym, _∙_}
 use mathlib.Core.Bool.{Bool}
 use Prim.Native.Nat.{ℕ}
-use Rattle.tally_tag.specs.Gauging.{firstLeaving}
+use Rattle.tally_tag.specs.Tallying.{firstLeaving}
 use Rattle.tallies_state.specs.Flat.{leavesOf}
 use Rattle.tallies_state.proofs.Once.{leaves-known}
 

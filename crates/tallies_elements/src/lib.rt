@@ -12,7 +12,7 @@ ghost use Prim.Native.Nat.{_^_, _≤_, _<_, min};
 ghost use lib.Dec.{eqb};
 ghost use Rattle.cdi.specs.Rules.{natural};
 ghost use Rattle.extent.specs.Reach.{Small};
-ghost use Rattle.tally_tag.specs.Gauging.{firstLeaving};
+ghost use Rattle.tally_tag.specs.Tallying.{firstLeaving};
 ghost use Rattle.tally_tag.specs.Numbered.{ownBy};
 ghost use Rattle.tags_numbers.specs.Given.{Bounded, numbersOf};
 ghost use Rattle.tallies_state.specs.Flat.{leavesOf};

@@ -15,7 +15,7 @@ use mir.ValLaws.{toZ-pos}
 use Rattle.extent.specs.Reach.{Small}
 use Rattle.extent.specs.declared.Extent.{Extent}
 use Rattle.extent.proofs.Signed.{read, read-is}
-use Rattle.tally_tag.specs.Gauging.{changeOf}
+use Rattle.tally_tag.specs.Tallying.{changeOf}
 use Rattle.tallies_records.specs.Fields.{fieldsOf}
 
 -- ── beyond the end ──

@@ -6,7 +6,7 @@ use native.Mathlib.Omega.{arith}
 use borrow.Author.Needs.{needs}
 use Rattle.extent.specs.Reach.{Small, nowhere}
 use Rattle.extent.specs.declared.Extent.{Extent}
-use Rattle.tally_tag.specs.Gauging.{atStart}
+use Rattle.tally_tag.specs.Tallying.{atStart}
 use Rattle.tally_tag.specs.Numbered.{recordedBy, levelBy, enterBy}
 use Rattle.tallies_state.specs.declared.Tally.{Tally}
 use Rattle.tallies_state.specs.Flat.{leavesOf, tallyOf, Kept}

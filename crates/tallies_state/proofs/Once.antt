@@ -8,7 +8,7 @@ use Rattle.cdi.proofs.Quiet.{impossible}
 use Rattle.tally_tag.specs.declared.Leaves.{Leaves}
 use Rattle.tally_tag.specs.declared.Leaves.the-variants.{Never, At}
 use Rattle.tally_tag.specs.declared.Tally.{Tally as Known}
-use Rattle.tally_tag.specs.Gauging.{atStart}
+use Rattle.tally_tag.specs.Tallying.{atStart}
 use Rattle.tally_tag.specs.Numbered.{enterBy}
 use Rattle.extent.specs.declared.Extent.{Extent}
 use Rattle.tallies_state.specs.declared.Tally.{Tally}

@@ -5,7 +5,7 @@ ghost use mathlib.Core.Path.{_≡_};
 ghost use mathlib.Core.Bool.{cond, _||_};
 ghost use Prim.Native.Nat.{_+_, _≤_, _<_};
 ghost use lib.Dec.{eqb};
-ghost use Rattle.tally_tag.specs.Gauging.{atStart};
+ghost use Rattle.tally_tag.specs.Tallying.{atStart};
 ghost use Rattle.tally_tag.specs.Numbered.{segmentAt, dataAt, groupAt, recordedBy, levelBy, enterBy};
 ghost use Rattle.tallies_state.specs.Flat.{tallyOf, Kept};
 

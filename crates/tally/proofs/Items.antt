@@ -22,7 +22,7 @@ use Rattle.extent.specs.declared.Extent.{Extent}
 use Rattle.extent.proofs.Joins.{size-sound, join-nowhere}
 use Rattle.extent.proofs.Holding.{held-join, held-append, held-copies}
 use Rattle.tally_tag.specs.declared.Leaves.{Leaves}
-use Rattle.tally_tag.specs.Gauging.{Tallied, numbersOf, isGroup, kindOf, ownExtent, recordOf, tallyNodes}
+use Rattle.tally_tag.specs.Tallying.{Tallied, numbersOf, isGroup, kindOf, ownExtent, recordOf, tallyNodes}
 use Rattle.tally.proofs.Levels.{tally, tallied, group-tallied, variable-tallied, other-tallied}
 use Rattle.tally.proofs.Tags.{offset-told, size-told, replication-least, replication-told}
 use Rattle.tally.proofs.Parts.{sets-append, sets-three}

@@ -14,7 +14,7 @@ use Rattle.extent.specs.Reach.{nowhere, fitsAt, join, held}
 use Rattle.extent.specs.declared.Extent.{Extent}
 use Rattle.tally_tag.specs.declared.Leaves.{Leaves}
 use Rattle.tally_tag.specs.declared.Tally.{Tally}
-use Rattle.tally_tag.specs.Gauging.{Tallied, numbersOf, isGroup, isSegment, recorded, levelIn, enterOf, ownExtent, firstLeaving, leaveOf, recordOf, written, tallyNodes}
+use Rattle.tally_tag.specs.Tallying.{Tallied, numbersOf, isGroup, isSegment, recorded, levelIn, enterOf, ownExtent, firstLeaving, leaveOf, recordOf, written, tallyNodes}
 
 -- a tally of these numbers
 abbrev pub tally : Extent → ℕ → ℕ → ℕ → Leaves → Tally

@@ -20,7 +20,7 @@ use Rattle.names.proofs.Positions.{element-kth}
 use Rattle.extent.specs.declared.Extent.{Extent}
 use Rattle.tally_tag.specs.declared.Numbers.{Numbers}
 use Rattle.tally_tag.specs.declared.Tally.{Tally}
-use Rattle.tally_tag.specs.Gauging.{numbersOf, isGroup, isSegment, recorded, levelIn, enterOf, ownExtent, leaveOf, kindOf, recordOf, written}
+use Rattle.tally_tag.specs.Tallying.{numbersOf, isGroup, isSegment, recorded, levelIn, enterOf, ownExtent, leaveOf, kindOf, recordOf, written}
 use Rattle.tally_tag.specs.Numbered.{sizeBy, naturalIn, offsetIn, numbersBy, segmentAt, dataAt, groupAt, recordedBy, levelBy, enterBy, ownBy, leaveBy, kindBy, addressBy, widthBy, copiesBy, toldBy, recordBy, writtenBy}
 
 -- ── names ──

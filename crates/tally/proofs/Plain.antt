@@ -13,7 +13,7 @@ use Rattle.extent.specs.declared.Extent.{Extent}
 use Rattle.extent.proofs.Joins.{extent-append}
 use Rattle.extent.proofs.Reached.{extent-count, extent-change, extent-keeps, fits-of}
 use Rattle.extent.proofs.Holding.{plain-held}
-use Rattle.tally_tag.specs.Gauging.{changeOf}
+use Rattle.tally_tag.specs.Tallying.{changeOf}
 
 -- a stretch of which everything is held
 pub record Plain (s : List Step) : Type 0 where

@@ -10,7 +10,7 @@ use Rattle.cdi.specs.Walk.Items.{noItems, variable, group}
 use Rattle.cdi.specs.Walk.Step.{add, stand}
 use Rattle.cdi.specs.Table.{fields, itemRecords}
 use Rattle.extent.specs.Reach.{extentOf, held}
-use Rattle.tally_tag.specs.Gauging.{changeOf}
+use Rattle.tally_tag.specs.Tallying.{changeOf}
 use Rattle.tally.proofs.Plain.{Plain, plain-first, plain-second, plain-copy, count-told, change-told}
 
 -- a record, with what is held of what is walked

@@ -24,7 +24,7 @@ use Rattle.extent.specs.declared.Extent.{Extent}
 use Rattle.extent.proofs.Holding.{held-keeps}
 use Rattle.tally_tag.specs.declared.Leaves.{Leaves}
 use Rattle.tally_tag.specs.declared.Leaves.the-variants.{Never, At}
-use Rattle.tally_tag.specs.Gauging.{Tallied, asFault, numbersOf, isSegment, kindOf, firstLeaving, recordOf, tallyNodes}
+use Rattle.tally_tag.specs.Tallying.{Tallied, asFault, numbersOf, isSegment, kindOf, firstLeaving, recordOf, tallyNodes}
 use Rattle.tally.proofs.Levels.{tally, tallied, segment-tallied, aside-tallied}
 use Rattle.tally.proofs.Tags.{origin-most, origin-told, space-told}
 use Rattle.tally.proofs.Parts.{sets-three}

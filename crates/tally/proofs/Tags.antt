@@ -19,7 +19,7 @@ use Rattle.cdi.specs.Planning.{numberOr, offsetOf, variableKind, variableSize, 
 use Rattle.cdi.proofs.Tests.{both, both-left, both-right}
 use Rattle.cdi.proofs.Quiet.{impossible, same-equal}
 use Rattle.cdi.proofs.Ranges.{DataFits, natural-within, kind-least, segment-fits}
-use Rattle.tally_tag.specs.Gauging.{from-to, numbersOf, isGroup, isSegment}
+use Rattle.tally_tag.specs.Tallying.{from-to, numbersOf, isGroup, isSegment}
 
 -- a number in its range stays
 stays : (lo hi d n : ℕ) → between lo hi n ≡ true → from-to lo hi d n ≡ n

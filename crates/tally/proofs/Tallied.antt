@@ -17,7 +17,7 @@ use Rattle.cdi.specs.Planning.{describe, leaving}
 use Rattle.cdi.proofs.Ranges.{judged, judged-other}
 use Rattle.extent.specs.Reach.{nowhere}
 use Rattle.tally_tag.specs.declared.Leaves.the-variants.{Never}
-use Rattle.tally_tag.specs.Gauging.{Tallied, asFault, tallyNodes, atStart}
+use Rattle.tally_tag.specs.Tallying.{Tallied, asFault, tallyNodes, atStart}
 use Rattle.tally.proofs.Levels.{tally, root-tallied}
 use Rattle.tally.proofs.Rows.{heldSegments}
 use Rattle.tally.proofs.Segments.{heldTotal, firstOf, segments-tallied, Ranged, segments-ranged, leaves-told, total-told, table-told}

@@ -21,7 +21,7 @@ use Rattle.cdi.specs.Values.{withSign}
 use Rattle.cdi.proofs.Tests.{ends, both-left, both-right}
 use Rattle.cdi.proofs.Signs.{up, down, le-up}
 use Rattle.extent.proofs.Signed.{read, read-is}
-use Rattle.tally_tag.specs.Gauging.{from-to}
+use Rattle.tally_tag.specs.Tallying.{from-to}
 use Rattle.tally_tag.specs.Numbered.{Ranged, naturalIn, offsetIn, sizeBy, numbersBy}
 
 -- ── a number in its range ──

@@ -1,2 +1,2 @@
-pub mod Gauging
+pub mod Tallying
 pub mod Numbered

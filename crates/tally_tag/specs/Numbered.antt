@@ -14,7 +14,7 @@ use Rattle.extent.specs.Reach.{nowhere, byOffset, bySize, join, repeat, fitsAt,
 use Rattle.extent.specs.declared.Extent.{Extent}
 use Rattle.tally_tag.specs.declared.Numbers.{Numbers}
 use Rattle.tally_tag.specs.declared.Tally.{Tally}
-use Rattle.tally_tag.specs.Gauging.{from-to, firstLeaving, changeOf}
+use Rattle.tally_tag.specs.Tallying.{from-to, firstLeaving, changeOf}
 
 -- ── ranges ──
 
