@@ -1,7 +1,7 @@
 -- Reading a number: one digit more, the digits, and the sign.
 use mathlib.Core.Path.{_≡_, refl, sym, ap, _∙_}
 use mathlib.Core.List.{List, [], _∷_}
-use mathlib.Core.Bool.{Bool, true, false, cond, not, _&&_}
+use mathlib.Core.Bool.{Bool, true, false, cond, not, _&&_, false≢true}
 use mathlib.Core.Option.{Option, none, some}
 use mathlib.Core.Logic.{_⊎_, inl, inr, ⊎-elim}
 use Prim.Native.Nat.{ℕ, zero, suc, _+_, _-_, _*_, _/_, _^_, _≤_, _<_}
@@ -13,18 +13,18 @@ use lib.IntN.{ℤ, pos, negℤ}
 use mir.Syntax.{w64}
 use mir.Val.{Fits}
 use lib.ListN.{length, take, drop, getD, drop-of-length-le}
-use Rattle.cdi.specs.Lists.{_>>=_, _orElse_, isEmpty, all, shorn, strip, begins, between}
+use Rattle.cdi.specs.Lists.{_>>=_, _orElse_, isEmpty, all, while, shorn, strip, begins, between}
 use Rattle.cdi.specs.Pieces.{blank, digit, decimal}
 use Rattle.cdi.specs.Numbers.{trimmed, digits, signedDigits, number}
 use Rattle.cdi.specs.Values.{withSign}
 use Rattle.cdi.proofs.Tests.{both-left}
 use Rattle.cdi.proofs.Trimmed.{shorn-all, shorn-first}
-use Rattle.scan.specs.Spans.{Span}
+use Rattle.scan.specs.Spans.{spanEnd, Span}
 use Rattle.scan.proofs.Along.{drop-next, rest, nothing-there}
 use Rattle.scan.proofs.Spans.{span-rest, span-all}
 use Rattle.scan.proofs.Tests.{lt-or-le, eq-or-ne}
 use Rattle.numbers.specs.Held.{held, sizeOf, nearest, signedOf, numberOf, digitsOf, oneMore, minusOf}
-use Rattle.numbers.specs.Ends.{endedBy, isSign, behindSign}
+use Rattle.numbers.specs.Ends.{endedBy, isSign, behindSign, Starts}
 use Rattle.numbers.specs.declared.Signed.{Signed}
 use Rattle.numbers.specs.declared.Number.{Number}
 use Rattle.numbers.specs.declared.Number.the-variants.{Is, Not}
@@ -239,42 +239,41 @@ signed-at b u w h k = by (eqb b 45) refl (eqb b 43) refl
     by false e true f = rw (h (rw (e, f)), eqb-true b 43 f) (after-plus u)
     by false e false f = rw (k (rw (e, f)), ne-eqb 45 b (λ z. eqb-false b 45 e (sym z))) (without u b (eqb-false b 45 e) (eqb-false b 43 f))
 
-module _ (s : List ℕ) {from at : ℕ} (v : Span blank s 0 from) (e : at ≡ behindSign s from) where
-  number-is : number s ≡ told (begins (45 ∷ []) (drop from s)) (digits (shorn blank (drop at s)))
-  unfolding number trimmed
-  number-is = ap (λ l. signedDigits (shorn blank l)) (span-rest v) ∙ ⊎-elim some-left none-left (lt-or-le from (length s))
-    where
-      there : (t : Bool) → isSign (getD s from 0) ≡ t → drop at s ≡ drop (cond t (from + 1) from) s
-      there t f = rw (e ∙ place)
-        where
-          place : behindSign s from ≡ cond t (from + 1) from
-          place = unfold behindSign in rw f
+number-is : (s : List ℕ) {at : ℕ} {minus : Bool} → Starts s at minus → number s ≡ told minus (digits (shorn blank (drop at s)))
+unfolding number trimmed
+number-is s {at} {minus} v = ap (λ l. signedDigits (shorn blank l)) (span-rest (v .blanks)) ∙ rw (v .negative) (⊎-elim some-left none-left (lt-or-le (v .from) (length s)))
+  where
+    there : (t : Bool) → isSign (getD s (v .from) 0) ≡ t → drop at s ≡ drop (cond t (v .from + 1) (v .from)) s
+    there t f = rw (v .sign ∙ place)
+      where
+        place : behindSign s (v .from) ≡ cond t (v .from + 1) (v .from)
+        place = unfold behindSign in rw f
 
-      Goal : Type 0
-      Goal = signedDigits (shorn blank (drop from s)) ≡ told (begins (45 ∷ []) (drop from s)) (digits (shorn blank (drop at s)))
+    Goal : Type 0
+    Goal = signedDigits (shorn blank (drop (v .from) s)) ≡ told (begins (45 ∷ []) (drop (v .from) s)) (digits (shorn blank (drop at s)))
 
-      none-left : length s ≤ from → Goal
-      none-left h =
-          let z = there false (unfold isSign in rw (← nothing-there s from h)) in
-          unfold signedDigits shorn strip begins digits isEmpty in rw (z, drop-of-length-le s h)
+    none-left : length s ≤ v .from → Goal
+    none-left h =
+        let z = there false (unfold isSign in rw (← nothing-there s (v .from) h)) in
+        unfold signedDigits shorn strip begins digits isEmpty in rw (z, drop-of-length-le s h)
 
-      some-left : from < length s → Goal
-      some-left h = rw (drop-next s from h) (signed-at (getD s from 0) (drop (from + 1) s) (drop at s) (there true) (λ f. there false f ∙ drop-next s from h))
+    some-left : v .from < length s → Goal
+    some-left h = rw (drop-next s (v .from) h) (signed-at (getD s (v .from) 0) (drop (v .from + 1) s) (drop at s) (there true) (λ f. there false f ∙ drop-next s (v .from) h))
 
-  module _ {r : Number} (d : r ≡ digitsOf (digits (shorn blank (take (length s - at) (drop at s))))) where
-    -- what the reader of digits said of the rest
-    said : r ≡ digitsOf (digits (shorn blank (drop at s)))
-    said = d ∙ ap (λ l. digitsOf (digits (shorn blank l))) (rest s at)
+module _ (s : List ℕ) {at : ℕ} {minus : Bool} (v : Starts s at minus) {r : Number} (d : r ≡ digitsOf (digits (shorn blank (take (length s - at) (drop at s))))) where
+  -- what the reader of digits said of the rest
+  said : r ≡ digitsOf (digits (shorn blank (drop at s)))
+  said = d ∙ ap (λ l. digitsOf (digits (shorn blank l))) (rest s at)
 
-    pub no-number : r ≡ Not → Not ≡ numberOf (number s)
-    no-number f = rw number-is (no-digits (begins (45 ∷ []) (drop from s)) (digits (shorn blank (drop at s))) (sym said ∙ f))
+  pub no-number : r ≡ Not → Not ≡ numberOf (number s)
+  no-number f = rw (number-is s v) (no-digits minus (digits (shorn blank (drop at s))) (sym said ∙ f))
 
-    module _ {m : Signed} {t : Bool} (f : r ≡ Is m) (g : t ≡ begins (45 ∷ []) (drop from s)) where
-      pub negative : {k : Signed} → t ≡ true → k ≡ minusOf m → Is k ≡ numberOf (number s)
-      negative h i = rw (number-is, ← g, h) (some-digits (digits (shorn blank (drop at s))) (sym said ∙ f) i)
+  module _ {m : Signed} (f : r ≡ Is m) where
+    pub negative : {k : Signed} → minus ≡ true → k ≡ minusOf m → Is k ≡ numberOf (number s)
+    negative h i = rw (number-is s v, h) (some-digits (digits (shorn blank (drop at s))) (sym said ∙ f) i)
 
-      pub positive : t ≡ false → Is m ≡ numberOf (number s)
-      positive h = rw (number-is, ← g, h) (sym f ∙ said ∙ plain (digits (shorn blank (drop at s))))
+    pub positive : minus ≡ false → Is m ≡ numberOf (number s)
+    positive h = rw (number-is s v, h) (sym f ∙ said ∙ plain (digits (shorn blank (drop at s))))
 
 pub ruleset signs = (no-number, negative, positive, needs)
 
@@ -309,5 +308,27 @@ module _ (s : List ℕ) (at : ℕ) where
   pub no-sign : (getD s at 0 ≡ 45 → ⊥) → (getD s at 0 ≡ 43 → ⊥) → at ≡ behindSign s at
   unfolding behindSign isSign
   no-sign e f = rw (ne-eqb (getD s at 0) 45 e, ne-eqb (getD s at 0) 43 f)
+
+-- a digit is neither a blank nor a sign
+digit-first : (s : List ℕ) → digit (getD s 0 0) ≡ true → Starts s 0 false
+unfolding digit between spanEnd while behindSign isSign begins
+digit-first [] h = absurd (false≢true h)
+digit-first (x ∷ s) h =
+    let l = leb-true 48 x (both-left (leb 48 x) (leb x 57) h) in
+    let no-blank : blank x ≡ false = digit-no-blank x h in
+    record {
+      from = 0;
+      blanks = record { is = rw no-blank; low = omega arith; high = omega arith };
+      sign = rw (ne-eqb x 45 (λ z. omega arith), ne-eqb x 43 (λ z. omega arith));
+      negative = rw (ne-eqb 45 x (λ z. omega arith));
+    }
+
+pub begins-digit : (s : List ℕ) {b : ℕ} {t : Bool} → b ≡ getD s 0 0 → t ≡ digit b → t ≡ true → Starts s 0 false
+begins-digit s e f g = digit-first s (rw (← e) (sym f ∙ g))
+
+pub begins-other : (s : List ℕ) {from at : ℕ} {minus : Bool} → Span blank s 0 from → at ≡ behindSign s from → minus ≡ begins (45 ∷ []) (drop from s) → Starts s at minus
+begins-other s {from} v e f = record { from = from; blanks = v; sign = e; negative = f }
+
+pub ruleset starts = (begins-digit, begins-other, needs)
 
 pub ruleset both-ends = (none-before, only-blanks, more-behind, sign-past, sign-minus, sign-plus, no-sign, needs)

@@ -1,5 +1,6 @@
 // Numbers: blanks or none, an optional plus or minus, one or more decimal digits, blanks or none, and nothing else. They are read from any bytes.
 
+use scan::byte_at;
 use scan::is_digit;
 use spans::blanks;
 use spans::is_at;
@@ -11,7 +12,7 @@ ghost use Rattle.cdi.specs.Pieces.{blank};
 ghost use Rattle.cdi.specs.Numbers.{number, digits as digitsIn};
 ghost use Rattle.cdi.specs.Values.{withSign};
 ghost use Rattle.numbers.specs.Held.{held, oneMore, digitsOf, numberOf, minusOf, nearest};
-ghost use Rattle.numbers.specs.Ends.{endedBy, behindSign};
+ghost use Rattle.numbers.specs.Ends.{endedBy, behindSign, Starts};
 
 // A number: its sign and its magnitude. A magnitude that needs more than 64 bits is large, and 0 stands in its place.
 pub struct Signed {
@@ -138,16 +139,40 @@ fn behind_sign(s: &[u8], at: usize) -> usize
     at
 }
 
+// Where the digits of a number begin, and whether a minus stands before them.
+struct Start {
+    at: usize,
+    minus: bool,
+}
+
+// Behind the blanks and the sign at the front. Most numbers begin with a digit.
+fn start_of(value: &[u8]) -> Start
+    ensures { λ r. ⌜ Starts (now (value .entry)) (r .at) (r .minus) ⌝ }
+    ensures bounds { λ r. ⌜ r .at ≤ length (now (value .entry)) ⌝ }
+{
+    if is_digit(byte_at(value, 0)) {
+        return Start {
+            at: 0,
+            minus: false,
+        };
+    }
+    let from = blanks(value, 0);
+    Start {
+        at: behind_sign(value, from),
+        minus: is_at(value, from, b'-'),
+    }
+}
+
 // The number that these bytes are, if they are one.
 pub fn read_number(value: &[u8]) -> Number
     ensures { λ r. ⌜ r ≡ numberOf (number (now (value .entry))) ⌝ }
 {
-    let from = blanks(value, 0);
-    let at = behind_sign(value, from);
+    let start = start_of(value);
+    let at = start.at;
     let Number::Is(n) = digits(&value[at..]) else {
         return Number::Not;
     };
-    if is_at(value, from, b'-') {
+    if start.minus {
         return Number::Is(minus(n));
     }
     Number::Is(n)

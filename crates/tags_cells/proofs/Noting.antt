@@ -1,15 +1,15 @@
 -- One attribute more, by each way through the code.
 use mathlib.Core.Path.{_≡_, refl, sym, ap, _∙_}
 use mathlib.Core.List.{List, [], _∷_}
-use mathlib.Core.Bool.{Bool, true, false, cond, not, _&&_}
+use mathlib.Core.Bool.{Bool, true, false, cond, not, _&&_, _||_}
 use mathlib.Core.Logic.{⊎-elim}
 use Prim.Native.Nat.{ℕ, _+_, _≤_, _<_}
 use native.Mathlib.Omega.{arith}
 use borrow.Author.Needs.{needs}
-use borrow.Author.Tests.{eq-eqb, ne-eqb}
+use borrow.Author.Tests.{eq-eqb, eqb-true, ne-eqb}
 use lib.Dec.{eqb}
 use lib.ListN.{length, drop, getD, set, drop-of-length-le}
-use Rattle.cdi.specs.Lists.{isEmpty, all, shorn, same}
+use Rattle.cdi.specs.Lists.{isEmpty, all, after, shorn, same}
 use Rattle.cdi.specs.Pieces.{blank}
 use Rattle.cdi.specs.Numbers.{trimmed}
 use Rattle.cdi.proofs.Quiet.{impossible}
@@ -44,6 +44,16 @@ longer b (c ∷ s) e = rw (and-false (eqb b 49), and-false (eqb b 50), and-false
     and-false true = refl
     and-false false = refl
 
+blank-says : (b : ℕ) → blank b ≡ true → sizeOfByte b ≡ 0
+unfolding blank sizeOfByte
+blank-says b e = by (eqb b 32) refl (eqb b 9) refl (eqb b 10) refl e
+  where
+    by : (x : Bool) → eqb b 32 ≡ x → (y : Bool) → eqb b 9 ≡ y → (z : Bool) → eqb b 10 ≡ z → (x || (y || z)) ≡ true → sizeOfByte b ≡ 0
+    by true f y g z h e = rw (eqb-true b 32 f)
+    by false f true g z h e = rw (eqb-true b 9 g)
+    by false f false g true h e = rw (eqb-true b 10 h)
+    by false f false g false h e = impossible (cc)
+
 module _ (v : List ℕ) {at : ℕ} (w : Span blank v 0 at) where
   shorn-is : sizeIn v ≡ exactSize (shorn blank (drop at v))
   unfolding sizeIn trimmed
@@ -66,7 +76,17 @@ module _ (v : List ℕ) {at : ℕ} (w : Span blank v 0 at) where
         let none-left = shorn-all blank (drop (at + 1) v) (sym (span-all u) ∙ eq-eqb e (length v) (omega (arith, u .high))) in
         f ∙ one-byte (getD v at 0) ∙ sym (shorn-is ∙ ap exactSize first-stays ∙ ap (λ l. exactSize (getD v at 0 ∷ l)) none-left)
 
-pub ruleset sizes = (only-blanks, more-behind, one-stands, needs)
+-- a text of one byte: a blank says no size
+pub one-alone : (v : List ℕ) {r : ℕ} → length v ≡ 1 → r ≡ sizeOfByte (getD v 0 0) → r ≡ sizeIn v
+one-alone [] h f = absurd (omega arith)
+one-alone (b ∷ []) h f = f ∙ by (blank b) refl
+  where
+    by : (t : Bool) → blank b ≡ t → sizeOfByte b ≡ sizeIn (b ∷ [])
+    by true e = blank-says b e ∙ (unfold sizeIn trimmed after shorn exactSize same in rw e)
+    by false e = one-byte b ∙ (unfold sizeIn trimmed after shorn isEmpty in rw e (rw e))
+one-alone (b ∷ c ∷ v) h f = absurd (omega arith)
+
+pub ruleset sizes = (only-blanks, more-behind, one-stands, one-alone, needs)
 
 module _ (a : ℕ) (v codes : List ℕ) (exact : ℕ) where
   pub first-size : {r : ℕ} → a ≡ 9 → getD codes 9 0 ≡ 0 → r ≡ sizeIn v → r ≡ withExact a v codes exact

@@ -60,7 +60,7 @@ fn size_of(b: u8) -> u8
 }
 
 // The size that a text says exactly, blanks at its ends aside, or 0.
-fn size_in(value: &[u8]) -> u8
+fn size_within(value: &[u8]) -> u8
     ensures { λ r. ⌜ r ≡ sizeIn (now (value .entry)) ⌝ }
     ensures bounds { λ r. ⌜ r ≤ 8 ⌝ }
 {
@@ -72,6 +72,17 @@ fn size_in(value: &[u8]) -> u8
         return 0;
     }
     size_of(value[at])
+}
+
+// The same; most have no blanks.
+fn size_in(value: &[u8]) -> u8
+    ensures { λ r. ⌜ r ≡ sizeIn (now (value .entry)) ⌝ }
+    ensures bounds { λ r. ⌜ r ≤ 8 ⌝ }
+{
+    if value.len() == 1 {
+        return size_of(value[0]);
+    }
+    size_within(value)
 }
 
 // The exact size, where the value is that of the first `size`.

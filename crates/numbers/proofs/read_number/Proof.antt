@@ -7,7 +7,6 @@ pub read-number-spec : {M : Type 1} → statement M
 read-number-spec =
     tie.close (tie.spec
     (λ c κs. search needs)
-    (λ c κs. search needs)
     (λ c. search needs)
     (λ c. search needs)
     (λ c. search needs)
@@ -15,7 +14,6 @@ read-number-spec =
     (λ c. search needs)
     (λ c. search needs)
     (λ c. search signs)
-    (λ c κs. search needs)
     (λ c κs. search needs)
     (λ c. search signs)
     (λ c. search signs))
