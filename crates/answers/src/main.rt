@@ -1,11 +1,15 @@
 // Answers a stream of cases from standard input, one line for each. A frame that is cut off, beyond its limits or of another first byte ends the
 // run with `bad frame`.
 
-use answers_leaves::asked::frame;
+pub mod accesses; // writing and reading
+pub mod leaves; // single readings
+pub mod plans; // planning
+pub mod reads; // answers to reading
+pub mod tables; // locating
+pub mod writes; // answers to writing
+
 use answers_out::steps::Step;
 use answers_out::steps::bad;
-use answers_plans::asked::planned;
-use answers_tables::asked::located;
 use frames::Byte;
 ghost use Prim.Native.Nat.{_≤_};
 ghost use lib.ListN.{length};
@@ -34,16 +38,16 @@ fn next(
     ensures { λ r. ⌜ r .at ≤ length (now (out .entry)) ⌝ }
 {
     if first == b'C' || is_plain(first) {
-        return frame(first, text, out, at);
+        return leaves::frame(first, text, out, at);
     }
     if first == b'L' {
-        return located(table, text, out, at);
+        return tables::frame(table, text, out, at);
     }
     if first == b'P' {
-        return planned(text, table, out, at);
+        return plans::frame(text, table, out, at);
     }
     if is_access(first) {
-        return answers_accesses::frame(first, text, table, window, value, out, at);
+        return accesses::frame(first, text, table, window, value, out, at);
     }
     bad(out, at)
 }

@@ -1,12 +1,14 @@
-// The lines for single readings: the end of the content, characters, numbers, formatting, names, and the piece at a place.
-
-pub mod asked;
+// Frames that ask for a single reading: the end of the content, characters, numbers, formatting, names, and the piece at a place.
 
 use answers_out::put_all;
 use answers_out::put_either;
 use answers_out::put_next;
 use answers_out::put_number;
+use answers_out::steps::Step;
+use answers_out::steps::bad;
+use answers_out::steps::ended;
 use formatting::is_formatting;
+use frames::Field;
 use names::attribute_number;
 use names::element_number;
 use numbers::Number;
@@ -22,9 +24,10 @@ use text::content_end;
 use text::is_utf8;
 ghost use Prim.Native.Nat.{_≤_, _<_};
 ghost use lib.ListN.{length};
+ghost use Prim.Native.Nat.{_≤_};
 
 // `end PLACE` or `refused 1 PLACE`
-pub fn ending(s: &[u8], out: &mut [u8], at: usize) -> usize
+fn ending(s: &[u8], out: &mut [u8], at: usize) -> usize
     requires { ⌜ (at ≤ length (now out)) × (64 ≤ length (now out)) ⌝ }
     ensures { λ r. ⌜ r ≤ length (now (out .entry)) ⌝ }
 {
@@ -55,7 +58,7 @@ fn place(bad: Place, out: &mut [u8], at: usize) -> usize
 }
 
 // `characters good` or `characters bad PLACE`, then whether the bytes are UTF-8 at all
-pub fn characters(s: &[u8], out: &mut [u8], at: usize) -> usize
+fn characters(s: &[u8], out: &mut [u8], at: usize) -> usize
     requires { ⌜ (at ≤ length (now out)) × (64 ≤ length (now out)) ⌝ }
     ensures { λ r. ⌜ r ≤ length (now (out .entry)) ⌝ }
 {
@@ -65,7 +68,7 @@ pub fn characters(s: &[u8], out: &mut [u8], at: usize) -> usize
 }
 
 // `number VALUE`, `number large` or `number none`
-pub fn number(s: &[u8], out: &mut [u8], at: usize) -> usize
+fn number(s: &[u8], out: &mut [u8], at: usize) -> usize
     requires { ⌜ (at ≤ length (now out)) × (64 ≤ length (now out)) ⌝ }
     ensures { λ r. ⌜ r ≤ length (now (out .entry)) ⌝ }
 {
@@ -79,7 +82,7 @@ pub fn number(s: &[u8], out: &mut [u8], at: usize) -> usize
     put_number(out, to, n.magnitude)
 }
 
-pub fn formatting(s: &[u8], out: &mut [u8], at: usize) -> usize
+fn formatting(s: &[u8], out: &mut [u8], at: usize) -> usize
     requires { ⌜ (at ≤ length (now out)) × (64 ≤ length (now out)) ⌝ }
     ensures { λ r. ⌜ r ≤ length (now (out .entry)) ⌝ }
 {
@@ -90,7 +93,7 @@ pub fn formatting(s: &[u8], out: &mut [u8], at: usize) -> usize
 }
 
 // `name ELEMENT ATTRIBUTE`
-pub fn name(s: &[u8], out: &mut [u8], at: usize) -> usize
+fn name(s: &[u8], out: &mut [u8], at: usize) -> usize
     requires { ⌜ (at ≤ length (now out)) × (64 ≤ length (now out)) ⌝ }
     ensures { λ r. ⌜ r ≤ length (now (out .entry)) ⌝ }
 {
@@ -160,7 +163,7 @@ fn finish(cut: Cut, out: &mut [u8], at: usize) -> usize
 }
 
 // The piece at a place of the content.
-pub fn piece(s: &[u8], place: usize, out: &mut [u8], at: usize) -> usize
+fn piece(s: &[u8], place: usize, out: &mut [u8], at: usize) -> usize
     requires { ⌜ (place < length (now s)) × (at ≤ length (now out)) × (64 ≤ length (now out)) ⌝ }
     ensures { λ r. ⌜ r ≤ length (now (out .entry)) ⌝ }
 {
@@ -179,4 +182,56 @@ pub fn piece(s: &[u8], place: usize, out: &mut [u8], at: usize) -> usize
         Kind::Malformed => put_all(out, at, b"malformed"),
         Kind::Unsupported => put_all(out, at, b"unsupported"),
     }
+}
+
+// The answer to a frame that holds bytes and nothing else.
+fn plain(first: u8, s: &[u8], out: &mut [u8], at: usize) -> usize
+    requires { ⌜ (at ≤ length (now out)) × (64 ≤ length (now out)) ⌝ }
+    ensures { λ r. ⌜ r ≤ length (now (out .entry)) ⌝ }
+{
+    if first == b'Z' {
+        return ending(s, out, at);
+    }
+    if first == b'U' {
+        return characters(s, out, at);
+    }
+    if first == b'N' {
+        return number(s, out, at);
+    }
+    if first == b'F' {
+        return formatting(s, out, at);
+    }
+    name(s, out, at)
+}
+
+// The answer to a frame `C`: the piece at a place, which is read now.
+fn piece_frame(s: &[u8], out: &mut [u8], at: usize) -> Step
+    requires { ⌜ (at ≤ length (now out)) × (64 ≤ length (now out)) ⌝ }
+    ensures { λ r. ⌜ r .at ≤ length (now (out .entry)) ⌝ }
+{
+    let Field::Is(place) = frames::read_number() else {
+        return bad(out, at);
+    };
+    if place < s.len() as u64 {
+        let to = piece(s, place as usize, out, at);
+        return ended(out, to);
+    }
+    bad(out, at)
+}
+
+// The answer to a frame that begins with bytes.
+pub fn frame(first: u8, text: &mut [u8], out: &mut [u8], at: usize) -> Step
+    requires { ⌜ (at ≤ length (now out)) × (64 ≤ length (now out)) ⌝ }
+    ensures { λ r. ⌜ r .at ≤ length (now (out .entry)) ⌝ }
+{
+    let part = frames::read_part(text);
+    if !part.whole {
+        return bad(out, at);
+    }
+    let size = part.size;
+    if first == b'C' {
+        return piece_frame(&text[0..size], out, at);
+    }
+    let to = plain(first, &text[0..size], out, at);
+    ended(out, to)
 }

@@ -1,12 +1,12 @@
 // Frames that ask for writing or reading.
 
+use crate::reads::reading;
+use crate::writes::event;
+use crate::writes::integer;
+use crate::writes::string;
 use answers_fields::fields;
 use answers_out::steps::Step;
 use answers_out::steps::bad;
-use answers_reads::reading;
-use answers_writes::event;
-use answers_writes::integer;
-use answers_writes::string;
 ghost use Prim.Native.Nat.{_≤_};
 ghost use lib.ListN.{length};
 

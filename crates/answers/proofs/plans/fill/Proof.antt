@@ -2,8 +2,8 @@ use borrow.Author.Needs.{needs}
 use mathlib.Core.Path.{_≡_}
 use Prim.Native.Nat.{_-_}
 use lib.ListN.{length}
-use Rattle.answers_plans.proofs.fill.Statement.{statement}
-use Rattle.answers_plans.proofs.fill.Tie as tie
+use Rattle.answers.proofs.plans.fill.Statement.{statement}
+use Rattle.answers.proofs.plans.fill.Tie as tie
 
 abbrev Inv-loop : tie.InvT-loop
 Inv-loop table₀ i₀ table i = length table ≡ length table₀

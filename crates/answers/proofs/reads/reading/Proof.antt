@@ -1,7 +1,7 @@
 use borrow.Author.Needs.{needs}
-use Rattle.answers_reads.proofs.Within.{within}
-use Rattle.answers_reads.proofs.reading.Statement.{statement}
-use Rattle.answers_reads.proofs.reading.Tie as tie
+use Rattle.answers.proofs.Within.{within}
+use Rattle.answers.proofs.reads.reading.Statement.{statement}
+use Rattle.answers.proofs.reads.reading.Tie as tie
 
 pub reading-spec : {M : Type 1} → statement M
 reading-spec =

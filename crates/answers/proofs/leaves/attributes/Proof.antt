@@ -2,8 +2,8 @@ use mathlib.Core.Path.{_≡_}
 use Prim.Native.Nat.{_≤_, _<_, _-_}
 use lib.ListN.{length}
 use borrow.Author.Needs.{needs}
-use Rattle.answers_leaves.proofs.attributes.Statement.{statement}
-use Rattle.answers_leaves.proofs.attributes.Tie as tie
+use Rattle.answers.proofs.leaves.attributes.Statement.{statement}
+use Rattle.answers.proofs.leaves.attributes.Tie as tie
 
 abbrev Inv-loop : tie.InvT-loop
 Inv-loop s from out₀ at i₀ to₀ out i to = (i ≤ length s) × (to ≤ length out) × (64 ≤ length out) × (length out ≡ length out₀) × Unit {0}

@@ -1,11 +1,13 @@
-// The lines for frames that plan a text.
-
-pub mod asked;
+// Frames that plan a text.
 
 use answers_out::put_all;
 use answers_out::put_hex;
 use answers_out::put_next;
 use answers_out::put_refusal;
+use answers_out::steps::Step;
+use answers_out::steps::bad;
+use answers_out::steps::ended;
+use frames::Field;
 use frames::signed;
 use frames_hash::hash;
 use plan::plan;
@@ -38,7 +40,7 @@ fn told(answer: Planned, out: &mut [u8], at: usize) -> usize
 }
 
 // The text planned into the table, and the hash of the whole table afterwards.
-pub fn planned(text: &[u8], table: &mut [i64], out: &mut [u8], at: usize) -> usize
+fn planned(text: &[u8], table: &mut [i64], out: &mut [u8], at: usize) -> usize
     requires { ⌜ (at ≤ length (now out)) × (64 ≤ length (now out)) ⌝ }
     ensures { λ r. ⌜ r ≤ length (now (out .entry)) ⌝ }
 {
@@ -46,4 +48,25 @@ pub fn planned(text: &[u8], table: &mut [i64], out: &mut [u8], at: usize) -> usi
     let answer = plan(text, table);
     let to = told(answer, out, at);
     put_hex(out, to, hash(table))
+}
+
+// The answer to a frame `P`: planning a text into a table of so many numbers.
+pub fn frame(text: &mut [u8], table: &mut [i64], out: &mut [u8], at: usize) -> Step
+    requires { ⌜ (at ≤ length (now out)) × (64 ≤ length (now out)) ⌝ }
+    ensures { λ r. ⌜ r .at ≤ length (now (out .entry)) ⌝ }
+{
+    let Field::Is(numbers) = frames::read_number() else {
+        return bad(out, at);
+    };
+    if (table.len() as u64) < numbers {
+        return bad(out, at);
+    }
+    let room = numbers as usize;
+    let part = frames::read_part(text);
+    if !part.whole {
+        return bad(out, at);
+    }
+    let size = part.size;
+    let to = planned(&text[0..size], &mut table[0..room], out, at);
+    ended(out, to)
 }
