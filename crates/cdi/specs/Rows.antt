@@ -13,7 +13,7 @@ pub data Form : Type 0 where
   fixed : String → Form
   -- a number from the one to the other
   range : ℤ → ℤ → Form
-  -- exactly one of these texts
+  -- one of these texts, blanks at its ends aside
   size : List String → Form
   -- "`%`, any digits or none, optionally `.` and any digits or none, then `f`"
   formatting : Form
