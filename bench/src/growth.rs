@@ -28,7 +28,7 @@ fn times(kind: &Kind, length: usize) -> Times {
     let text = (kind.text)(length);
     let text = if length == LENGTHS[LENGTHS.len() - 1] { longest(text) } else { text };
     let number = agreed(kind.name, &text, ROOM).map_or_else(|refusal| refusal.number, |_| 0);
-    assert_eq!(number, if kind.accepted { 0 } else { 8 }, "{}", kind.name);
+    assert_eq!(number, kind.number, "{}", kind.name);
     let (proved, plain) = least(&text, ROOM, 1 + 100_000 / text.len(), ROUNDS);
     Times { proved, plain, bytes: text.len() }
 }

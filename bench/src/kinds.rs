@@ -2,22 +2,22 @@
 
 use crate::texts::{levels, HEAD, SEGMENT};
 
-/// What a kind is called, its text of at most so many bytes with the zero, and whether that is a plan; the others are refused with 8.
+/// What a kind is called, its text of at most so many bytes with the zero, and the number that refuses it, 0 for a plan.
 pub struct Kind {
     pub name: &'static str,
     pub text: fn(usize) -> Vec<u8>,
-    pub accepted: bool,
+    pub number: u8,
 }
 
 const fn accepted(name: &'static str, text: fn(usize) -> Vec<u8>) -> Kind {
-    Kind { name, text, accepted: true }
+    Kind { name, text, number: 0 }
 }
 
-const fn refused(name: &'static str, text: fn(usize) -> Vec<u8>) -> Kind {
-    Kind { name, text, accepted: false }
+const fn refused(number: u8, name: &'static str, text: fn(usize) -> Vec<u8>) -> Kind {
+    Kind { name, text, number }
 }
 
-pub const KINDS: [Kind; 14] = [
+pub const KINDS: [Kind; 15] = [
     accepted("an ordinary description", ordinary),
     accepted("nests of 24 levels", nests),
     accepted("small elements on level 24", small),
@@ -28,10 +28,11 @@ pub const KINDS: [Kind; 14] = [
     accepted("blanks around a number of an attribute", spaced_offset),
     accepted("blanks around a number of an element", spaced_min),
     accepted("references", references),
-    refused("tags of 16 attributes", sixteen),
-    refused("one tag, distinct names", wide),
-    refused("one tag, long beginnings", alike),
-    refused("one tag, names that begin each other", beginnings),
+    refused(85, "tags of 16 attributes", sixteen),
+    refused(85, "one tag, distinct names", wide),
+    refused(86, "one tag, distinct names, one missing", lacking),
+    refused(85, "one tag, long beginnings", alike),
+    refused(85, "one tag, names that begin each other", beginnings),
 ];
 
 const END: &str = "</segment></cdi>\0";
@@ -127,18 +128,22 @@ fn sixteen(length: usize) -> Vec<u8> {
 }
 
 /// One tag with these names.
-fn one_tag(length: usize, name: fn(usize) -> String) -> Vec<u8> {
-    filled(length, &format!("{HEAD}{SEGMENT}<int"), |n| format!(" {}=''", name(n)), &format!("/>{END}"))
+fn one_tag(length: usize, element: &str, name: fn(usize) -> String) -> Vec<u8> {
+    filled(length, &format!("{HEAD}{SEGMENT}<{element}"), |n| format!(" {}=''", name(n)), &format!("/>{END}"))
 }
 
 fn wide(length: usize) -> Vec<u8> {
-    one_tag(length, |n| format!("a{n}"))
+    one_tag(length, "int", |n| format!("a{n}"))
+}
+
+fn lacking(length: usize) -> Vec<u8> {
+    one_tag(length, "string", |n| format!("a{n}"))
 }
 
 fn alike(length: usize) -> Vec<u8> {
-    one_tag(length, |n| format!("{}{n:04}", "a".repeat(40)))
+    one_tag(length, "int", |n| format!("{}{n:04}", "a".repeat(40)))
 }
 
 fn beginnings(length: usize) -> Vec<u8> {
-    one_tag(length, |n| "a".repeat(n + 1))
+    one_tag(length, "int", |n| "a".repeat(n + 1))
 }

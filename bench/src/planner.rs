@@ -1,6 +1,6 @@
-//! A plain planner: a description's text in, its table or a refusal out, by document 01 and R-1. It is written to be timed beside the proved
+//! A plain planner: a description's text in, its table or a refusal out, by document 01, R-1 and R-2. It is written to be timed beside the proved
 //! one, shares nothing with it, and trusts Rust's own tests of indices. Stages 1 to 3 look over the bytes, and one pass over the pieces
-//! does the rest: a fault of stages 4 to 7 ends it, the least fault of stages 8 to 10 and what the walk comes to are kept for its end.
+//! does the rest: a fault of stages 4 to 7 ends it, the least fault against the table of elements and what the walk comes to are kept for its end.
 
 mod markup;
 mod rules;
@@ -66,7 +66,7 @@ struct Pass<'a> {
     open: Vec<Open<'a>>,
     elements: usize,
     root: usize,
-    /// The least fault of stages 8 to 10: place, then number.
+    /// The least fault against the table of elements: its place and its number.
     least: (usize, u8),
     /// Of the int that is open.
     bounds: Bounds,
@@ -77,6 +77,15 @@ struct Pass<'a> {
 }
 
 const NO_FAULT: (usize, u8) = (usize::MAX, 0);
+
+/// How a number ranks at one place: 81 to 88, then 9 and 10.
+fn rank(number: u8) -> u8 {
+    if number > 80 {
+        number - 80
+    } else {
+        number
+    }
+}
 
 impl<'a> Pass<'a> {
     fn new(content: &'a [u8]) -> Self {
@@ -94,7 +103,10 @@ impl<'a> Pass<'a> {
     }
 
     fn blame(&mut self, number: u8, place: usize) {
-        self.least = self.least.min((place, number));
+        let (least, other) = self.least;
+        if (place, rank(number)) < (least, rank(other)) {
+            self.least = (place, number);
+        }
     }
 
     /// Stages 4 to 7, and what the later ones need.
@@ -117,7 +129,7 @@ impl<'a> Pass<'a> {
         Ok(())
     }
 
-    /// Stages 8 to 12.
+    /// The faults against the table of elements, 11 and 12.
     fn settle(&self) -> Result<u64, Refusal> {
         if self.least != NO_FAULT {
             return refused(self.least.1, self.least.0);
@@ -135,7 +147,7 @@ impl<'a> Pass<'a> {
     fn text(&mut self, place: usize) -> Result<(), Refusal> {
         let Some(parent) = self.open.last() else { return refused(6, place) };
         if parent.row.holds_children() {
-            self.blame(8, place);
+            self.blame(88, place);
         }
         Ok(())
     }
@@ -172,7 +184,7 @@ impl<'a> Pass<'a> {
             self.root = place;
             let row = rules::root(name);
             if row == Row::Unknown {
-                self.blame(8, place);
+                self.blame(81, place);
             }
             return (row, true);
         };
@@ -180,14 +192,15 @@ impl<'a> Pass<'a> {
             return (Row::Unknown, true);
         }
         let Some((entry, row)) = rules::child(parent.row, name) else {
-            self.blame(8, place);
+            self.blame(81, place);
             return (Row::Unknown, true);
         };
-        let stands = entry > parent.last || (entry == parent.last && row.may_repeat());
-        parent.last = parent.last.max(entry);
+        let last = parent.last;
+        let stands = entry > last || (entry == last && row.may_repeat());
+        parent.last = last.max(entry);
         parent.seen |= 1 << entry;
         if !stands {
-            self.blame(8, place);
+            self.blame(if entry < last { 82 } else { 83 }, place);
         }
         (row, stands)
     }
@@ -198,12 +211,23 @@ impl<'a> Pass<'a> {
         if let Some(number) = fields.fault {
             self.blame(number, place);
         }
+        if fields.wrong {
+            self.blame_attribute(row);
+        }
         if row == Row::Int {
             self.bounds = Bounds { size: fields.extra, ..Bounds::default() };
         }
         if let Some(kind) = row.kind() {
             let Fields { start, extra, copies, .. } = fields;
             self.records.push([kind, place as i64, start, extra, copies, 0, 0, 0]);
+        }
+    }
+
+    /// The first attribute that is unknown or has a wrong text, at its name.
+    #[cold]
+    fn blame_attribute(&mut self, row: Row) {
+        if let Some((number, name)) = rules::first_wrong(row, &self.cutter.attributes) {
+            self.blame(number, self.cutter.place_of(name));
         }
     }
 
@@ -226,7 +250,7 @@ impl<'a> Pass<'a> {
             Row::Number => {
                 self.bound(&element, end);
             }
-            Row::Relation | Row::IntRelation if element.seen != rules::BOTH => self.blame(8, element.place),
+            Row::Relation | Row::IntRelation if element.seen != rules::BOTH => self.blame(84, element.place),
             Row::Int => {
                 if let Some(place) = self.bounds.fault(element.place) {
                     self.blame(10, place);

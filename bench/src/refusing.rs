@@ -1,4 +1,5 @@
-//! Planning the samples, and a text of about 15 KB that is refused by each cause with the fault near its beginning and near its end.
+//! Planning the samples, a text of about 15 KB that is refused by each cause with the fault near its beginning and near its end, and tags of 64 KB
+//! with thousands of unknown attributes.
 
 use crate::planner::Refusal;
 use crate::planning::{agreed, least, told, ROOM};
@@ -12,8 +13,8 @@ const SAMPLES: [(&str, &[u8]); 3] = [
     ("interlocking-desk.xml", include_bytes!("../../samples/interlocking-desk.xml")),
 ];
 
-/// What each cause from 2 to 12 but 3 refuses where it stands in a segment.
-fn faults() -> [(u8, String); 10] {
+/// What each cause of a text but 1 and 3 refuses where it stands in a segment.
+fn faults() -> [(u8, String); 17] {
     let deep = format!("{}<int/>{}", "<group>".repeat(22), "</group>".repeat(22));
     [
         (2, "\u{1}"),
@@ -21,7 +22,14 @@ fn faults() -> [(u8, String); 10] {
         (5, "<![CDATA[x]]>"),
         (6, "</a>"),
         (7, &deep),
-        (8, "<bit/>"),
+        (81, "<bit/>"),
+        (82, "<group><int/><name/></group>"),
+        (83, "<group><name/><name/></group>"),
+        (84, "<int><map><relation/></map></int>"),
+        (85, "<int color='red'/>"),
+        (86, "<string/>"),
+        (87, "<float size='4' formatting='%d'/>"),
+        (88, "stray"),
         (9, "<int><min>x</min></int>"),
         (10, "<int size='3'/>"),
         (11, "<int offset='-2147483648'/>"),
@@ -71,5 +79,7 @@ pub fn measure() {
     refuse_in_segment(first.0, &first.1);
     refuse(3, "", &other_line, ROOM);
     others.iter().for_each(|(number, part)| refuse_in_segment(*number, part));
+    refuse(85, ", a tag of 64 KB", &texts::widest(), ROOM);
+    refuse(86, ", a tag of 64 KB", &texts::lacking(), ROOM);
     refuse(13, "", &whole, 8);
 }

@@ -87,13 +87,23 @@ fn attributes(text: &mut String, length: usize, name: impl Fn(usize) -> String) 
     }
 }
 
-/// One tag that takes nearly all the bytes that a text may have.
-pub fn widest() -> Vec<u8> {
+/// One tag of this element that takes nearly all the bytes that a text may have.
+fn wide(element: &str) -> Vec<u8> {
     let mut text = levels(2);
-    text.push_str("<int");
+    let _ = write!(text, "<{element}");
     attributes(&mut text, 65_000, |n| format!("a{n}"));
     text.push_str("/></segment></cdi>\0");
     text.into_bytes()
+}
+
+/// Such a tag whose attributes are all unknown.
+pub fn widest() -> Vec<u8> {
+    wide("int")
+}
+
+/// Such a tag that lacks an attribute too.
+pub fn lacking() -> Vec<u8> {
+    wide("string")
 }
 
 /// Such a tag inside an element of level 24, with a name that stands twice.

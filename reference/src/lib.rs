@@ -1,4 +1,5 @@
-//! An independent reference for the answers of document 01 and request R-1 of document 02, written from their words in the most literal way.
+//! An independent reference for the answers of document 01 and of requests of document 02, written from their words in the most
+//! literal way.
 //! `answer` gives the answer to a case, `line` its line, `frame` the bytes of a case in the stream.
 
 pub mod access;

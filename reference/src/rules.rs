@@ -1,8 +1,11 @@
-//! The table of elements and the faults against it: stages 8 to 10.
+//! The table of elements and the faults against it: 81 to 88, 9 and 10, which are one stage.
 //! Every fault is collected with its place; nothing inside an unknown element is judged.
 
 use crate::number::{number, without_blanks, Number};
+use crate::pieces::Attribute;
 use crate::refusal::{least, refusal, Refusal};
+use crate::refusal::{MISSING_ATTRIBUTE, MISSING_CHILD, OUT_OF_ORDER, STRAY_TEXT, TOO_OFTEN};
+use crate::refusal::{UNKNOWN_ATTRIBUTE, UNKNOWN_ELEMENT, WRONG_TEXT};
 use crate::text::is_blank;
 use crate::tree::{Child, Element};
 
@@ -222,11 +225,33 @@ fn listed_size(text: &[u8], sizes: &[&str]) -> Option<i64> {
 /// The number of the fault of an attribute's text, if it has one.
 pub fn value_fault(value: &Value, text: &[u8]) -> Option<u8> {
     match value {
-        Value::Fixed(fixed) => (fixed.as_bytes() != text).then_some(8),
+        Value::Fixed(fixed) => (fixed.as_bytes() != text).then_some(WRONG_TEXT),
         Value::Number { least, greatest } => number_fault(text, *least, *greatest),
         Value::Size(sizes) => listed_size(text, sizes).is_none().then_some(10),
-        Value::Formatting => (!is_formatting(text)).then_some(8),
+        Value::Formatting => (!is_formatting(text)).then_some(WRONG_TEXT),
     }
+}
+
+/// The number of the fault of an attribute by its own name and text, if it has one.
+pub fn attribute_fault(given: &Attribute, rules: &[AttributeRule]) -> Option<u8> {
+    match rules.iter().find(|rule| rule.name.as_bytes() == given.name) {
+        None => Some(UNKNOWN_ATTRIBUTE),
+        Some(rule) => value_fault(&rule.value, &given.value),
+    }
+}
+
+/// Where such a fault stands: that of an unknown attribute and of a wrong fixed text at its name, others at the tag's `<`.
+fn attribute_place(number: u8, given: &Attribute, element: &Element) -> usize {
+    match number {
+        UNKNOWN_ATTRIBUTE | WRONG_TEXT => given.name_place,
+        _ => element.place,
+    }
+}
+
+/// The required attributes that an element lacks.
+pub fn missing_attributes<'a>(element: &Element, rules: &'a [AttributeRule]) -> Vec<&'a str> {
+    let missing = |rule: &&AttributeRule| rule.required && attribute(element, rule.name).is_none();
+    rules.iter().filter(missing).map(|rule| rule.name).collect()
 }
 
 /// The text of an element's attribute.
@@ -267,11 +292,17 @@ pub fn number_in(element: &Element) -> Option<i128> {
     }
 }
 
-/// A child's entry in the parent's row, its own row, and whether it is out of order or one too many.
-struct Standing {
-    entry: usize,
-    row: &'static Row,
-    wrong: bool,
+/// The number of the fault of an element whose whole content must be a number, if it has one.
+pub fn number_fault_in(element: &Element) -> Option<u8> {
+    only_run(element).map_or(Some(9), |text| number_fault(text, LEAST_NUMBER, GREATEST_NUMBER))
+}
+
+/// A child's entry in the parent's row, its own row, and whether it is out of order, or one too many, or both.
+pub struct Standing {
+    pub entry: usize,
+    pub row: &'static Row,
+    pub out_of_order: bool,
+    pub too_often: bool,
 }
 
 /// The entry of a row that a child of this name has, and the child's own row.
@@ -283,21 +314,27 @@ pub fn find_row(entries: &'static [Entry], name: &[u8]) -> Option<(usize, &'stat
 }
 
 /// Where each child element stands in the row; none for an unknown one.
-fn standings(element: &Element, entries: &'static [Entry]) -> Vec<Option<Standing>> {
+pub fn standings(element: &Element, entries: &'static [Entry]) -> Vec<Option<Standing>> {
     let mut standings: Vec<Option<Standing>> = Vec::new();
     for child in child_elements(element) {
         let standing = find_row(entries, &child.name).map(|(entry, row)| {
             let earlier = || standings.iter().flatten();
             let out_of_order = earlier().any(|other| other.entry > entry);
-            let again = entries[entry].count != Count::Any && earlier().any(|other| other.entry == entry);
-            Standing { entry, row, wrong: out_of_order || again }
+            let too_often = entries[entry].count != Count::Any && earlier().any(|other| other.entry == entry);
+            Standing { entry, row, out_of_order, too_often }
         });
         standings.push(standing);
     }
     standings
 }
 
-/// Collects faults of stages 8 to 10.
+/// The entries of which exactly one must stand and none does.
+pub fn missing_children(standings: &[Option<Standing>], entries: &[Entry]) -> Vec<usize> {
+    let stands = |index: usize| standings.iter().flatten().any(|standing| standing.entry == index);
+    (0..entries.len()).filter(|index| entries[*index].count == Count::One && !stands(*index)).collect()
+}
+
+/// Collects the faults of this stage.
 #[derive(Default)]
 struct Judge {
     faults: Vec<Refusal>,
@@ -310,19 +347,12 @@ impl Judge {
 
     fn attributes(&mut self, element: &Element, rules: &[AttributeRule]) {
         for given in &element.attributes {
-            match rules.iter().find(|rule| rule.name.as_bytes() == given.name) {
-                None => self.fault(8, element.place),
-                Some(rule) => {
-                    if let Some(number) = value_fault(&rule.value, &given.value) {
-                        self.fault(number, element.place);
-                    }
-                }
+            if let Some(number) = attribute_fault(given, rules) {
+                self.fault(number, attribute_place(number, given, element));
             }
         }
-        for rule in rules {
-            if rule.required && attribute(element, rule.name).is_none() {
-                self.fault(8, element.place);
-            }
+        for _ in missing_attributes(element, rules) {
+            self.fault(MISSING_ATTRIBUTE, element.place);
         }
     }
 
@@ -332,10 +362,10 @@ impl Judge {
             match child {
                 Child::Run { place, bytes } => {
                     if let Some(distance) = bytes.iter().position(|byte| !is_blank(*byte)) {
-                        self.fault(8, place + distance);
+                        self.fault(STRAY_TEXT, place + distance);
                     }
                 }
-                Child::Reference { place, .. } => self.fault(8, *place),
+                Child::Reference { place, .. } => self.fault(STRAY_TEXT, *place),
                 Child::Element(_) | Child::Comment | Child::Instruction => {}
             }
         }
@@ -345,38 +375,33 @@ impl Judge {
         self.stray(element);
         let standings = standings(element, entries);
         for (child, standing) in child_elements(element).into_iter().zip(&standings) {
-            match standing {
-                None => self.fault(8, child.place),
-                Some(standing) => {
-                    if standing.wrong {
-                        self.fault(8, child.place);
-                    }
-                    self.element(child, standing.row);
-                }
+            let Some(standing) = standing else {
+                self.fault(UNKNOWN_ELEMENT, child.place);
+                continue;
+            };
+            if standing.out_of_order {
+                self.fault(OUT_OF_ORDER, child.place);
             }
+            if standing.too_often {
+                self.fault(TOO_OFTEN, child.place);
+            }
+            self.element(child, standing.row);
         }
-        for (index, entry) in entries.iter().enumerate() {
-            let stands = standings.iter().flatten().any(|standing| standing.entry == index);
-            if entry.count == Count::One && !stands {
-                self.fault(8, element.place);
-            }
+        for _ in missing_children(&standings, entries) {
+            self.fault(MISSING_CHILD, element.place);
         }
     }
 
     /// Every child of an element that holds text only is unknown.
     fn no_children(&mut self, element: &Element) {
         for child in child_elements(element) {
-            self.fault(8, child.place);
+            self.fault(UNKNOWN_ELEMENT, child.place);
         }
     }
 
     fn number(&mut self, element: &Element) {
         self.no_children(element);
-        let number = match only_run(element) {
-            None => Some(9),
-            Some(text) => number_fault(text, LEAST_NUMBER, GREATEST_NUMBER),
-        };
-        if let Some(number) = number {
+        if let Some(number) = number_fault_in(element) {
             self.fault(number, element.place);
         }
     }
@@ -447,8 +472,8 @@ fn bound<'a>(int: &'a Element, name: &str) -> Option<Option<(&'a Element, i128)>
     match found.as_slice() {
         [] => Some(None),
         [(index, element)] => {
-            let wrong = standings[*index].as_ref().is_none_or(|standing| standing.wrong);
-            if wrong || !element.attributes.is_empty() {
+            let wrong = |standing: &Standing| standing.out_of_order || standing.too_often;
+            if standings[*index].as_ref().is_none_or(wrong) || !element.attributes.is_empty() {
                 return None;
             }
             Some(Some((element, number_in(element)?)))
@@ -471,13 +496,18 @@ pub fn bounds_to_test(int: &Element) -> Option<Bounds<'_>> {
     })
 }
 
-/// Stages 8 to 10: the least fault against the table of elements.
-pub fn judge(root: &Element) -> Result<(), Refusal> {
+/// All faults against the table of elements, in any order.
+pub fn faults(root: &Element) -> Vec<Refusal> {
     let mut judge = Judge::default();
     if root.name == CDI.name.as_bytes() {
         judge.element(root, &CDI);
     } else {
-        judge.fault(8, root.place);
+        judge.fault(UNKNOWN_ELEMENT, root.place);
     }
-    least(&judge.faults).map_or(Ok(()), Err)
+    judge.faults
+}
+
+/// This stage: the least fault against the table of elements.
+pub fn judge(root: &Element) -> Result<(), Refusal> {
+    least(&faults(root)).map_or(Ok(()), Err)
 }

@@ -179,12 +179,14 @@ fn point_9_one_run_of_text() {
 
 #[test]
 fn point_10_other_texts_keep_their_blanks() {
-    for (from, to) in [("=\"http://www", "=\" http://www"), ("instance\"", "instance \""), ("cdi.xsd\"", "cdi.xsd\n\"")]
+    for (from, to, place) in
+        [("=\"http://www", "=\" http://www", 5), ("instance\"", "instance \"", 5), ("cdi.xsd\"", "cdi.xsd\n\"", 59)]
     {
-        assert_eq!(outside(&format!("{}</cdi>", ROOT.replace(from, to))), Some((8, 0)), "{to}");
+        assert_eq!(outside(&format!("{}</cdi>", ROOT.replace(from, to))), Some((87, place)), "{to}");
     }
     for formatting in [" %f", "%f ", "%+f", "%\t3f", "%3.2f\n"] {
-        assert_eq!(in_segment(&format!("<float size='2' formatting='{formatting}'/>")), Some((8, 0)), "{formatting:?}");
+        let float = format!("<float size='2' formatting='{formatting}'/>");
+        assert_eq!(in_segment(&float), Some((87, 16)), "{formatting:?}");
     }
     let map = "<map><relation><property> +7 </property><value/></relation></map>";
     let string = access(&format!("<string size='9'>{map}</string>"), 0, 9);

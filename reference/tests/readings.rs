@@ -202,68 +202,68 @@ fn r12_r13_structure() {
     assert_eq!(outside(&format!("{open}<a/>")), Some((7, 72)));
     assert_eq!(outside(&format!("{open}<a b='&'/>")), Some((5, 72)));
     assert_eq!(outside(&format!("{open}<a b='&'c=''/>")), Some((4, 72)));
-    assert_eq!(outside(&format!("{open}{}", "</a>".repeat(24))), Some((8, 0)));
+    assert_eq!(outside(&format!("{open}{}", "</a>".repeat(24))), Some((81, 0)));
     let full = format!("<a>{}</a>", "<b/>".repeat(4_095));
-    assert_eq!(outside(&full), Some((8, 0)));
+    assert_eq!(outside(&full), Some((81, 0)));
     assert_eq!(outside(&format!("{full}<a/>")), Some((6, full.len() as u64)));
     assert_eq!(outside(&format!("<a>{}</a>", "<b/>".repeat(4_096))), Some((7, 3 + 4 * 4_095)));
 }
 
 #[test]
 fn r14_r15_the_least_fault() {
-    assert_eq!(in_segment("<int offset='x' a=''/>"), Some((8, 0)));
+    assert_eq!(in_segment("<int offset='x' a=''/>"), Some((9, 0)));
     assert_eq!(in_segment("<int offset='x' size='3'/>"), Some((9, 0)));
     assert_eq!(in_segment("<int><min>x</min></int><a/>"), Some((9, 5)));
-    assert_eq!(in_segment("<a><int size='3'/></a>"), Some((8, 0)));
+    assert_eq!(in_segment("<a><int size='3'/></a>"), Some((81, 0)));
     assert_eq!(inside("<segment space='256'>x</segment>"), Some((10, 0)));
 }
 
 #[test]
 fn r16_order() {
-    assert_eq!(in_segment("<int/><name/>"), Some((8, 6)));
-    assert_eq!(in_segment("<group><int/><repname/></group>"), Some((8, 13)));
-    assert_eq!(in_segment("<name/><name/>"), Some((8, 7)));
-    assert_eq!(in_segment("<int><max>1</max><min>0</min></int>"), Some((8, 17)));
-    assert_eq!(in_segment("<int><map/><min>0</min><max>1</max></int>"), Some((8, 11)));
-    assert_eq!(in_segment("<int><map><relation><value/><property>1</property></relation></map></int>"), Some((8, 28)));
-    assert_eq!(in_segment("<int><map><relation><value/></relation></map></int>"), Some((8, 10)));
-    assert_eq!(inside("<acdi/><identification/>"), Some((8, 7)));
+    assert_eq!(in_segment("<int/><name/>"), Some((82, 6)));
+    assert_eq!(in_segment("<group><int/><repname/></group>"), Some((82, 13)));
+    assert_eq!(in_segment("<name/><name/>"), Some((83, 7)));
+    assert_eq!(in_segment("<int><max>1</max><min>0</min></int>"), Some((82, 17)));
+    assert_eq!(in_segment("<int><map/><min>0</min><max>1</max></int>"), Some((82, 11)));
+    assert_eq!(in_segment("<int><map><relation><value/><property>1</property></relation></map></int>"), Some((82, 28)));
+    assert_eq!(in_segment("<int><map><relation><value/></relation></map></int>"), Some((84, 10)));
+    assert_eq!(inside("<acdi/><identification/>"), Some((82, 7)));
 }
 
 #[test]
 fn r17_stray_text() {
-    assert_eq!(in_segment(" \n x <int/>"), Some((8, 3)));
-    assert_eq!(in_segment("  &#32;"), Some((8, 2)));
-    assert_eq!(inside("<acdi> x</acdi>"), Some((8, 7)));
-    assert_eq!(inside("<acdi>&#32;</acdi>"), Some((8, 6)));
+    assert_eq!(in_segment(" \n x <int/>"), Some((88, 3)));
+    assert_eq!(in_segment("  &#32;"), Some((88, 2)));
+    assert_eq!(inside("<acdi> x</acdi>"), Some((88, 7)));
+    assert_eq!(inside("<acdi>&#32;</acdi>"), Some((88, 6)));
 }
 
 #[test]
 fn r18_text_only() {
-    assert_eq!(in_segment("<name a=''/>"), Some((8, 0)));
-    assert_eq!(in_segment("<name>x<name/></name>"), Some((8, 7)));
+    assert_eq!(in_segment("<name a=''/>"), Some((85, 6)));
+    assert_eq!(in_segment("<name>x<name/></name>"), Some((81, 7)));
     assert_eq!(in_segment("<name><!---->&lt;<?p?>x</name>"), None);
 }
 
 #[test]
 fn r19_attributes() {
-    assert_eq!(outside("<cdi/>"), Some((8, 0)));
-    assert_eq!(outside(&format!("{}</cdi>", ROOT.replace("/1/3/", "/1/4/"))), Some((8, 0)));
-    assert_eq!(outside(&format!("{}</cdi>", ROOT.replace("instance\"", "instance \""))), Some((8, 0)));
+    assert_eq!(outside("<cdi/>"), Some((86, 0)));
+    assert_eq!(outside(&format!("{}</cdi>", ROOT.replace("/1/3/", "/1/4/"))), Some((87, 59)));
+    assert_eq!(outside(&format!("{}</cdi>", ROOT.replace("instance\"", "instance \""))), Some((87, 5)));
     for good in ["%f", "%.f", "%3f", "%3.f", "%.2f", "%03.22f"] {
         assert_eq!(in_segment(&format!("<float size='2' formatting='{good}'/>")), None, "{good}");
     }
     for bad in ["", "%", "f", "%F", "% f", "%f ", "%1.2.f", "%-3f", "%3"] {
-        assert_eq!(in_segment(&format!("<float size='2' formatting='{bad}'/>")), Some((8, 0)), "{bad}");
+        assert_eq!(in_segment(&format!("<float size='2' formatting='{bad}'/>")), Some((87, 16)), "{bad}");
     }
-    assert_eq!(in_segment("<float/>"), Some((8, 0)));
+    assert_eq!(in_segment("<float/>"), Some((86, 0)));
     assert_eq!(in_segment("<float size='1'/>"), Some((10, 0)));
     assert_eq!(in_segment("<float size=''/>"), Some((10, 0)));
-    assert_eq!(in_segment("<string/>"), Some((8, 0)));
+    assert_eq!(in_segment("<string/>"), Some((86, 0)));
     assert_eq!(in_segment("<string size=''/>"), Some((9, 0)));
     assert_eq!(in_segment("<string size='0'/>"), Some((10, 0)));
     assert_eq!(in_segment("<string size='0065535'/>"), None);
-    assert_eq!(in_segment("<eventid size='8'/>"), Some((8, 0)));
+    assert_eq!(in_segment("<eventid size='8'/>"), Some((85, 9)));
 }
 
 #[test]
@@ -303,10 +303,10 @@ fn r22_r23_bounds() {
     assert_eq!(in_segment("<int><min>2</min><max>1</max><a/></int>"), Some((10, 0)));
     assert_eq!(in_segment("<int><name a=''/><min>2</min><max>1</max></int>"), Some((10, 0)));
     assert_eq!(in_segment("<int>x<min>2</min><max>1</max></int>"), Some((10, 0)));
-    assert_eq!(in_segment("<int><min>2</min><max>1</max><max>1</max></int>"), Some((8, 29)));
-    assert_eq!(in_segment("<int><min>2</min><max a=''>1</max></int>"), Some((8, 17)));
+    assert_eq!(in_segment("<int><min>2</min><max>1</max><max>1</max></int>"), Some((83, 29)));
+    assert_eq!(in_segment("<int><min>2</min><max a=''>1</max></int>"), Some((85, 22)));
     assert_eq!(in_segment("<int><min>2</min><max>x</max></int>"), Some((9, 17)));
-    assert_eq!(in_segment("<int><default>0</default><min>2</min><max>1</max></int>"), Some((8, 25)));
+    assert_eq!(in_segment("<int><default>0</default><min>2</min><max>1</max></int>"), Some((82, 25)));
     assert_eq!(in_segment("<int offset='x'><min>2</min><max>1</max></int>"), Some((9, 0)));
     assert_eq!(in_segment("<int size='3'><min>2</min><max>1</max></int>"), Some((10, 0)));
     assert_eq!(line(&read(&access("<int><min>-0</min></int>", 0, 1))), "integer 255 accepted");

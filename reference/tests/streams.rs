@@ -1,7 +1,8 @@
 //! The streams of cases: frames that round-trip, shares of answers, and what small cases keep to.
 
-use reference::cases::reached::{accesses, labels as things, numbers, Reached};
+use reference::cases::reached::{accesses, faults, labels as things, numbers, Reached};
 use reference::cases::stats::Shares;
+use reference::cases::texts::CAUSES;
 use reference::cases::{boundaries, is_small, Sort, Stream};
 use reference::plan::planned;
 use reference::table::plan;
@@ -103,42 +104,74 @@ fn labels(numbers: impl IntoIterator<Item = u8>, words: &[&str]) -> Vec<String> 
 #[test]
 fn each_answer_has_its_share() {
     let wanted = [
-        (Sort::Plan, "plan", labels(1..=13, &["planned"])),
+        (Sort::Plan, "plan", labels(CAUSES.into_iter().chain([13]), &["planned"])),
         (Sort::Locate, "locate", labels(20..=21, &["found"])),
-        (Sort::Access, "access", labels((1..=12).chain(20..=28), &["written", "integer", "event", "text"])),
+        (Sort::Access, "access", labels(CAUSES.into_iter().chain(20..=28), &["written", "integer", "event", "text"])),
     ];
     for (sort, kind, labels) in wanted {
         let shares = shares(sort, 6_000);
         for label in labels {
             assert!(shares.percent(kind, &label) >= 1.0, "{kind} {label} {}", shares.percent(kind, &label));
         }
+        assert_eq!(shares.percent(kind, "8"), 0.0);
     }
 }
 
-/// What the first cases of a stream reach.
-fn reached(sort: Sort, count: u64) -> Reached {
+/// What the first cases of a stream reach, and their answers.
+fn reached(sort: Sort, count: u64) -> (Reached, Shares) {
     let stream = Stream::new(1, sort, false);
-    let mut reached = Reached::default();
-    (0..count).for_each(|index| reached.add(&stream.case(index)));
-    reached
+    let (mut reached, mut shares) = (Reached::default(), Shares::default());
+    for index in 0..count {
+        let case = stream.case(index);
+        reached.add(&case);
+        shares.add(&case);
+    }
+    (reached, shares)
 }
 
-/// Each thing that a planner may read in a way of its own, by the independent program's reading; of numbers with blanks and signs, shares.
+/// Each thing that a planner may read in a way of its own, by the independent program's reading; of numbers with blanks and signs and of several
+/// faults at once, shares; and each of 81 to 88 as the answer.
 #[test]
 fn the_planning_stream_reaches_each_way() {
-    let reached = reached(Sort::Plan, 20_000);
+    let (reached, shares) = reached(Sort::Plan, 20_000);
     for thing in things() {
         assert!(reached.count(&thing) >= 20, "{thing}: {}", reached.count(&thing));
     }
-    for (thing, percent) in [(numbers::ACCEPTED, 4), (numbers::PLANNED, 2), (numbers::REFUSED, 4)] {
+    for (thing, percent) in [
+        (numbers::ACCEPTED, 4),
+        (numbers::PLANNED, 2),
+        (numbers::REFUSED, 4),
+        (faults::TWO_IN_TAG, 5),
+        (faults::THREE_IN_TAG, 2),
+        (faults::TWO_IN_ELEMENT, 4),
+        (faults::THREE_IN_ELEMENT, 1),
+    ] {
         assert!(reached.count(thing) >= 200 * percent, "{thing}: {}", reached.count(thing));
+    }
+    for number in 81..=88 {
+        let percent = shares.percent("plan", &number.to_string());
+        assert!(percent >= 1.0, "{number}: {percent}");
+    }
+}
+
+/// Small cases, which the definitions compute, have each cause too.
+#[test]
+fn small_cases_have_each_cause() {
+    let stream = Stream::new(1, Sort::All, true);
+    let mut shares = Shares::default();
+    (0..3_000).for_each(|index| shares.add(&stream.case(index)));
+    for number in CAUSES.into_iter().filter(|number| *number != 12) {
+        for kind in ["plan", "access"] {
+            let percent = shares.percent(kind, &number.to_string());
+            assert!(percent >= 0.5, "{kind} {number}: {percent}");
+        }
     }
 }
 
 /// Writes and reads of ints whose size, bounds or properties have blanks or a plus.
 #[test]
 fn the_access_stream_turns_on_blanks_and_signs() {
-    let reached = reached(Sort::Access, 20_000);
+    let (reached, _) = reached(Sort::Access, 20_000);
     for thing in accesses::labels() {
         assert!(reached.count(&thing) >= 20, "{thing}: {}", reached.count(&thing));
     }
@@ -151,12 +184,22 @@ fn in_segment(inside: &str) -> Vec<u8> {
     format!("{head}{inside}</segment></cdi>\0").into_bytes()
 }
 
-/// What one text shows, but for the bytes of attributes.
-fn shown(room: u64, inside: &str) -> Vec<String> {
+/// What one text shows.
+fn all_shown(room: u64, inside: &str) -> Vec<String> {
     let mut reached = Reached::default();
     reached.add(&Case::Plan { room, text: in_segment(inside) });
-    let things = things().into_iter().filter(|thing| reached.count(thing) > 0);
-    things.filter(|thing| !thing.starts_with("attributes of")).collect()
+    things().into_iter().filter(|thing| reached.count(thing) > 0).collect()
+}
+
+/// Whether a thing is about the causes 81 to 88 and what stands beside them.
+fn is_of_causes(thing: &str) -> bool {
+    ["cause: ", "tag: ", "element: ", "one place: "].iter().any(|start| thing.starts_with(start))
+}
+
+/// What one text shows, but for the bytes of attributes and the causes.
+fn shown(room: u64, inside: &str) -> Vec<String> {
+    let others = all_shown(room, inside).into_iter().filter(|thing| !is_of_causes(thing));
+    others.filter(|thing| !thing.starts_with("attributes of")).collect()
 }
 
 #[test]
@@ -236,6 +279,45 @@ fn what_a_number_reaches() {
     ] {
         assert_eq!(spelled(inside), [fault, carrier].map(|what| format!("misspelled: {what}")), "{inside}");
         assert!(shown(8, inside).contains(&numbers::REFUSED.to_string()), "{inside}");
+    }
+}
+
+#[test]
+fn what_a_fault_reaches() {
+    let two = [faults::TWO_IN_TAG, faults::TWO_IN_ELEMENT];
+    let three = [faults::THREE_IN_TAG, faults::THREE_IN_ELEMENT];
+    for (inside, wanted) in [
+        ("<int/>", vec![]),
+        ("<map/>", vec!["cause: 81 by a name that other rows have"]),
+        ("<a/>", vec!["cause: 81 by a name that no row has"]),
+        ("<name><a/></name>", vec!["cause: 81 in an element of text only", "cause: 81 by a name that no row has"]),
+        ("<int a='' size='1' offset='x'/>", vec![two[0], "tag: 85 before 9"]),
+        (
+            "<float formatting='' a=''/>",
+            vec!["cause: 86 of a float", two[0], three[0], "tag: 87 before 85", "tag: 86 and 85", "tag: 86 and 87"],
+        ),
+        ("<int><max>1</max><min>x</min></int>", vec!["cause: 82 of an element of text only", "one place: 82 and 9"]),
+        (
+            "<name/> x<name/><a/>",
+            vec![
+                "cause: 88 behind blanks",
+                two[1],
+                three[1],
+                "element: 83 before 81",
+                "element: 88 before 81",
+                "element: 88 before 83",
+            ],
+        ),
+        ("<int a=''><min>2</min><max>1</max></int>", vec!["cause: 10 of an int's bounds, 85 in its tag"]),
+        (
+            "<int><map><relation a=''>x</relation></map></int>",
+            vec!["cause: 84 without both", two[1], three[1], "element: 84 and 85", "element: 84 and 88"],
+        ),
+        // An element that the answer is no part of.
+        ("<a/><int b='' offset='x'/>", vec!["cause: 81 by a name that no row has"]),
+    ] {
+        let shown: Vec<String> = all_shown(8, inside).into_iter().filter(|thing| is_of_causes(thing)).collect();
+        assert_eq!(shown, wanted, "{inside}");
     }
 }
 

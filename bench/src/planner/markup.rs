@@ -84,6 +84,11 @@ impl<'a> Cutter<'a> {
         Some((place, piece.unwrap_or(Piece::Malformed)))
     }
 
+    /// Where a part of the content begins.
+    pub fn place_of(&self, part: &[u8]) -> usize {
+        part.as_ptr() as usize - self.content.as_ptr() as usize
+    }
+
     /// The next byte, or 0 at the end: the content has no zero.
     fn peek(&self) -> u8 {
         self.content.get(self.at).copied().unwrap_or(0)

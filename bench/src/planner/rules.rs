@@ -49,6 +49,9 @@ impl Row {
     }
 }
 
+const INSTANCE: &[u8] = b"http://www.w3.org/2001/XMLSchema-instance";
+const LOCATION: &[u8] = b"http://openlcb.org/schema/cdi/1/3/cdi.xsd";
+
 /// The children that a relation needs: its entries 1 and 2.
 pub const BOTH: u8 = 0b110;
 
@@ -132,22 +135,27 @@ fn named(name: &[u8]) -> Option<(u8, Row)> {
     }
 }
 
-/// What a tag's attributes say: origin or offset, space or size, replication, and the least number of their faults.
+/// What a tag's attributes say: origin or offset, space or size, replication; of 86, 9 and 10, which stand at the tag, the one that speaks; and
+/// whether one is unknown or has a wrong text, 85 and 87, which stand at its name.
 pub struct Fields {
     pub start: i64,
     pub extra: i64,
     pub copies: i64,
     pub fault: Option<u8>,
+    pub wrong: bool,
 }
 
 /// The attributes of one tag, as they are asked for.
 struct Given<'a, 'b> {
     attributes: &'b [Attribute<'a>],
     known: usize,
+    missing: bool,
     fault: Option<u8>,
+    wrong: bool,
 }
 
 impl<'a> Given<'a, '_> {
+    /// Notes 9 or 10.
     fn blame(&mut self, number: u8) {
         self.fault = Some(self.fault.map_or(number, |least| least.min(number)));
     }
@@ -160,9 +168,7 @@ impl<'a> Given<'a, '_> {
 
     fn required(&mut self, name: &[u8]) -> Option<&'a [u8]> {
         let found = self.find(name);
-        if found.is_none() {
-            self.blame(8);
-        }
+        self.missing |= found.is_none();
         found
     }
 
@@ -193,9 +199,7 @@ impl<'a> Given<'a, '_> {
     }
 
     fn fixed(&mut self, name: &[u8], wanted: &[u8]) {
-        if self.required(name).is_some_and(|value| value != wanted) {
-            self.blame(8);
-        }
+        self.wrong |= self.required(name).is_some_and(|value| value != wanted);
     }
 
     /// A size that is one of these texts of one digit, blanks at its ends aside, or 0.
@@ -216,17 +220,15 @@ impl<'a> Given<'a, '_> {
     }
 
     fn float_size(&mut self) -> i64 {
-        if self.find(b"formatting").is_some_and(|text| !is_formatting(text)) {
-            self.blame(8);
-        }
+        self.wrong |= self.find(b"formatting").is_some_and(|text| !is_formatting(text));
         self.required(b"size").map_or(0, |text| self.size(text, b"248"))
     }
 
     /// The attributes of elements without a record.
     fn other_rows(&mut self, row: Row) {
         if row == Row::Cdi {
-            self.fixed(b"xmlns:xsi", b"http://www.w3.org/2001/XMLSchema-instance");
-            self.fixed(b"xsi:noNamespaceSchemaLocation", b"http://openlcb.org/schema/cdi/1/3/cdi.xsd");
+            self.fixed(b"xmlns:xsi", INSTANCE);
+            self.fixed(b"xsi:noNamespaceSchemaLocation", LOCATION);
         }
         if row == Row::Acdi {
             self.optional(b"fixed", 0, 255, 0);
@@ -254,12 +256,38 @@ impl<'a> Given<'a, '_> {
 
 /// The attributes of an element by its row.
 pub fn fields(row: Row, attributes: &[Attribute]) -> Fields {
-    let mut given = Given { attributes, known: 0, fault: None };
+    let mut given = Given { attributes, known: 0, missing: false, fault: None, wrong: false };
     let (start, extra, copies) = given.numbers(row);
-    if given.known < attributes.len() {
-        given.blame(8);
+    let fault = if given.missing { Some(86) } else { given.fault };
+    Fields { start, extra, copies, fault, wrong: given.wrong || given.known < attributes.len() }
+}
+
+/// The names that the attributes of an element may have.
+fn names(row: Row) -> &'static [&'static [u8]] {
+    match row {
+        Row::Cdi => &[b"xmlns:xsi", b"xsi:noNamespaceSchemaLocation"],
+        Row::Acdi => &[b"fixed", b"var"],
+        Row::Segment => &[b"space", b"origin"],
+        Row::Group => &[b"replication", b"offset"],
+        Row::Int | Row::Chars => &[b"size", b"offset"],
+        Row::Eventid => &[b"offset"],
+        Row::Float => &[b"size", b"offset", b"formatting"],
+        _ => &[],
     }
-    Fields { start, extra, copies, fault: given.fault }
+}
+
+/// The first attribute that is unknown or has a wrong text: the number of its fault, and its name.
+pub fn first_wrong<'a>(row: Row, attributes: &[Attribute<'a>]) -> Option<(u8, &'a [u8])> {
+    attributes.iter().find_map(|&Attribute { name, value }| {
+        let good = match name {
+            _ if !names(row).contains(&name) => return Some((85, name)),
+            b"xmlns:xsi" => value == INSTANCE,
+            b"xsi:noNamespaceSchemaLocation" => value == LOCATION,
+            b"formatting" => is_formatting(value),
+            _ => true,
+        };
+        (!good).then_some((87, name))
+    })
 }
 
 /// `%`, digits, perhaps `.` and digits, `f`.

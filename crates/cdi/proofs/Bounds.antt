@@ -11,7 +11,7 @@ use Rattle.cdi.specs.Pieces.{Attribute}
 use Rattle.cdi.specs.Tree.{Nodes, end, element, other}
 use Rattle.cdi.specs.Numbers.{bounded}
 use Rattle.cdi.specs.Rows.{AttributeRule, Row, rowOf, rows-page}
-use Rattle.cdi.specs.Rules.{Before, nothingBefore, behind, rangeFaults, known, ownNumber, numberNames, numberFaults, boundsOf, boundFaults, storable, sound, tested, sizeOf, isInt, intFaults, ownFaults, faultsIn}
+use Rattle.cdi.specs.Rules.{Before, nothingBefore, behind, rangeFaults, nameFaults, namesFaults, ownNumber, numberNames, numberFaults, boundsOf, boundFaults, storable, sound, tested, sizeOf, isInt, intFaults, ownFaults, faultsIn}
 use Rattle.cdi.proofs.Quiet.{empty-left, empty-right, passed, same-equal, same-self}
 use Rattle.cdi.proofs.Ranges.{judged, judged-other, kept, int-size}
 
@@ -20,10 +20,10 @@ record NumberName (w : List ℕ) : Type 0 where
   bare : rowOf w .attributes ≡ []
   listed : among w numberNames ≡ true
 
-bare-attributes : (rules : List AttributeRule) (s : List Attribute) → rules ≡ [] → all (known rules) s ≡ true → isEmpty s ≡ true
-unfolding known isEmpty all any
+bare-attributes : (rules : List AttributeRule) (s : List Attribute) → rules ≡ [] → namesFaults rules s ≡ [] → isEmpty s ≡ true
+unfolding nameFaults namesFaults isEmpty
 bare-attributes rules [] q e = refl
-bare-attributes [] (a ∷ s) q e = e
+bare-attributes [] (a ∷ s) q e = cc
 bare-attributes (x ∷ rules) (a ∷ s) q e = cc
 
 in-range : (p : ℕ) (z : Option ℤ) → rangeFaults p bounded z ≡ [] → given z false bounded ≡ true
@@ -35,7 +35,7 @@ number-holds : (w : List ℕ) → NumberName w → (p : ℕ) (s : List Attribute
 unfolding numberFaults
 number-holds w h p s kids e =
     let k = kept e in
-    rw (bare-attributes (rowOf w .attributes) s (h .bare) (k .listed)) (in-range p (ownNumber kids) (rw (h .listed) at (k .numbers)))
+    rw (bare-attributes (rowOf w .attributes) s (h .bare) (k .names)) (in-range p (ownNumber kids) (rw (h .listed) at (k .numbers)))
 
 -- A tree without faults inside an int is sound for such a name.
 sound-holds : (w : List ℕ) → NumberName w → (r : Row) (b : Before) (t : Nodes) → faultsIn r true b t ≡ [] → sound r w b t ≡ true

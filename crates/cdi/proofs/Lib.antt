@@ -2,6 +2,7 @@
 pub mod Tests
 pub mod Signs
 pub mod Least
+pub mod Named
 pub mod Zero
 pub mod Room
 pub mod Walked

@@ -59,8 +59,8 @@ unfolding pieces startPlaces Rising
 starts-rise at k [] l = tt
 starts-rise at (suc k) (x ∷ s) l = rising-from (at + 1 + k) (at + suc k) (startPlaces (pieces (at + 1) k s)) (omega arith) (starts-rise (at + 1) k s (omega arith))
 starts-rise at zero (x ∷ s) l =
-    let k = length s - length (pieceAt (x ∷ s) .1) in
-    one-more (at + 0) at k (pieceAt (x ∷ s) .0) (startPlaces (pieces (at + 1) k s)) (omega arith) (omega arith) (starts-rise (at + 1) k s (omega arith))
+    let k = length s - length (pieceAt at (x ∷ s) .1) in
+    one-more (at + 0) at k (pieceAt at (x ∷ s) .0) (startPlaces (pieces (at + 1) k s)) (omega arith) (omega arith) (starts-rise (at + 1) k s (omega arith))
 
 -- A start tag without faults stands above depth 25 and before element 4,097.
 pub start-fits : (r : Progress) (p : ℕ) (n : List ℕ) (s : List Attribute) (e : Bool) → pieceFaults r p (start n s e) ≡ [] → (length (r .names) < 24) × (r .begun < 4096)

@@ -15,7 +15,7 @@ use Rattle.cdi.specs.Pieces.{Attribute, Piece, pieces-page}
 use Rattle.cdi.specs.Tree.{Nodes, element, other}
 use Rattle.cdi.specs.Numbers.{trimmed, signedDigits, number, within, numbers-page}
 use Rattle.cdi.specs.Rows.{Form, range, size, AttributeRule, Row, rowOf, optional, offset, dataNames, intSizes, floatSizes, rows-page}
-use Rattle.cdi.specs.Rules.{offTable, Before, nothingBefore, behind, attributeValue, rangeFaults, formFaults, ruleFaults, rulesFaults, known, attributeFaults, missingFaults, numberFaults, intFaults, entryOf, childFaults, strayFaults, isKnown, isInt, ownFaults, faultsIn, natural, sizeText, sizeOf}
+use Rattle.cdi.specs.Rules.{missingAttribute, Before, nothingBefore, behind, attributeValue, rangeFaults, formFaults, ruleFaults, rulesFaults, namesFaults, attributeFaults, missingFaults, numberFaults, intFaults, entryOf, childFaults, strayFaults, isKnown, isInt, ownFaults, faultsIn, natural, sizeText, sizeOf}
 use Rattle.cdi.specs.Table.{sameNumber}
 use Rattle.cdi.specs.Plans.{sizeFits, offsetFits, plans-page}
 use Rattle.cdi.specs.Planning.{numberOr, offsetOf, variableKind, variableSize, segmentOf}
@@ -67,7 +67,7 @@ judged-other r inInt b p c following e = empty-right (strayFaults r p c) _ e
 
 -- the kinds of an element's own faults, of which there are none
 pub record Kept (inInt : Bool) (p : ℕ) (n : List ℕ) (s : List Attribute) (kids : Nodes) : Type 0 where
-  pub listed : all (known (rowOf n .attributes)) s ≡ true
+  pub names : namesFaults (rowOf n .attributes) s ≡ []
   pub rules : rulesFaults p (rowOf n .attributes) s ≡ []
   pub there : missingFaults p (rowOf n .children) kids ≡ []
   pub numbers : numberFaults inInt p n kids ≡ []
@@ -81,8 +81,8 @@ kept {inInt} {p} {n} {s} {kids} e =
     let rest = empty-right (attributeFaults p (rowOf n) s) _ e in
     let last = empty-right (missingFaults p (rowOf n .children) kids) _ rest in
     record {
-      listed = passed _ _ (empty-left _ _ own);
-      rules = empty-right (unless (all (known (rowOf n .attributes)) s) _) _ own;
+      names = empty-right (rulesFaults p (rowOf n .attributes) s) _ own;
+      rules = empty-left _ _ own;
       there = empty-left _ _ rest;
       numbers = empty-left _ _ last;
       bounds = empty-right (numberFaults inInt p n kids) _ last;
@@ -104,7 +104,7 @@ range-rule p lo hi z needed n s h = there (attributeValue n s)
     read none e = cc
     read (some y) e = passed _ _ e
 
-    there : (v : Option (List ℕ)) → given v (unless (not needed) (offTable p)) (formFaults p (range lo hi)) ≡ [] → within lo hi (given (v >>= number) z (λ y. y)) ≡ true
+    there : (v : Option (List ℕ)) → given v (unless (not needed) (missingAttribute p)) (formFaults p (range lo hi)) ≡ [] → within lo hi (given (v >>= number) z (λ y. y)) ≡ true
     there none e = h
     there (some v) e = read (number v) e
 
@@ -114,7 +114,7 @@ size-rule : (p : ℕ) (needed : Bool) (ts : List String) (s : List Attribute) �
 unfolding ruleFaults formFaults sizeText
 size-rule p needed ts s h = there (attributeValue (ascii "size") s)
   where
-    there : (v : Option (List ℕ)) → given v (unless (not needed) (offTable p)) (formFaults p (size ts)) ≡ [] → among (trimmed (given v (ascii "1") (λ w. w))) (map ascii ts) ≡ true
+    there : (v : Option (List ℕ)) → given v (unless (not needed) (missingAttribute p)) (formFaults p (size ts)) ≡ [] → among (trimmed (given v (ascii "1") (λ w. w))) (map ascii ts) ≡ true
     there none e = h (passed _ _ e)
     there (some v) e = passed _ _ e
 
@@ -128,7 +128,7 @@ length-rule p hi s = there (attributeValue (ascii "size") s)
     read (some (pos y)) e = passed _ _ e
     read (some (negsuc y)) e = passed _ _ e
 
-    there : (v : Option (List ℕ)) → given v (unless (not true) (offTable p)) (formFaults p (range (pos 1) (pos hi))) ≡ [] → within (pos 1) (pos hi) (pos (given (number (given v (ascii "1") (λ w. w))) 0 natural)) ≡ true
+    there : (v : Option (List ℕ)) → given v (unless (not true) (missingAttribute p)) (formFaults p (range (pos 1) (pos hi))) ≡ [] → within (pos 1) (pos hi) (pos (given (number (given v (ascii "1") (λ w. w))) 0 natural)) ≡ true
     there none e = let z = passed _ _ e in cc
     there (some v) e = read (number v) e
 

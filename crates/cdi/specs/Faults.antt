@@ -2,8 +2,9 @@
 use mathlib.Core.List.{List, [], _∷_}
 use mathlib.Core.Bool.{Bool, true, false, cond, _&&_, _||_}
 use mathlib.Core.Option.{Option, none, some}
-use Prim.Native.Nat.{ℕ}
+use Prim.Native.Nat.{ℕ, _+_, _-_}
 use lib.Dec.{eqb, leb, ltb}
+use Rattle.cdi.specs.Lists.{between}
 
 -- "Planning returns number and place"
 pub record Fault : Type 0 where
@@ -18,9 +19,13 @@ unfoldable pub unless : Bool → Fault → List Fault
 unless true f = []
 unless false f = f ∷ []
 
--- "the smallest place, then the smallest number"
+-- the order of the numbers at one place: "81 to 88 in that order replace 8 in its stage and still rank before 9"
+unfoldable pub rank : ℕ → ℕ
+rank n = cond (between 81 88 n) (n - 73) (cond (between 8 80 n) (n + 8) n)
+
+-- "the smallest place, then the smallest number", numbers by their rank
 unfoldable pub before : Fault → Fault → Bool
-before f g = ltb (f .place) (g .place) || (eqb (f .place) (g .place) && leb (f .number) (g .number))
+before f g = ltb (f .place) (g .place) || (eqb (f .place) (g .place) && leb (rank (f .number)) (rank (g .number)))
 
 -- the lesser of two, where both are there
 unfoldable pub lesser : Option Fault → Option Fault → Option Fault
@@ -56,5 +61,5 @@ module _ {A : Type 0} where
   isAccepted (refused f) = false
 
 unfoldable pub faults-page : Unit {0}
-unfolding unless before lesser least isAccepted
+unfolding unless rank before lesser least isAccepted
 faults-page = tt

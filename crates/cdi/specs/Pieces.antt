@@ -8,7 +8,9 @@ use lib.Dec.{eqb}
 use Rattle.cdi.specs.Lists.{ascii, _>>=_, given, _orElse_, isSome, isEmpty, any, while, after, same, begins, strip, beyond, between}
 use Rattle.cdi.specs.Text.{isChar}
 
+-- an attribute: where its name begins, its name and its value
 pub record Attribute : Type 0 where
+  pub place : ℕ
   pub name : List ℕ
   pub value : List ℕ
 
@@ -60,20 +62,22 @@ unfoldable pub quoted : List ℕ → Option (List ℕ × List ℕ)
 quoted [] = none
 quoted (q ∷ s) = cond (isQuote q) (strip (q ∷ []) (after (valueByte q) s) >>= λ t. some (while (valueByte q) s, t)) none
 
--- "blanks may stand around `=`"
-unfoldable pub attributeAt : List ℕ → Option (Attribute × List ℕ)
+-- a name and a value, and what follows them: "blanks may stand around `=`"
+unfoldable pub attributeAt : List ℕ → Option ((List ℕ × List ℕ) × List ℕ)
 attributeAt s = do
   n ← nameAt s
   t ← strip (ascii "=") (after blank (n .1))
   v ← quoted (after blank t)
-  some (record { name = n .0; value = v .0 }, v .1)
+  some ((n .0, v .0), v .1)
 
--- "blanks must stand between attributes": those of a tag, from behind its name on. `k` bytes are still to pass
-unfoldable pub attributes : ℕ → List ℕ → List Attribute
-attributes k [] = []
-attributes (suc k) (x ∷ s) = attributes k s
-attributes zero (x ∷ s) =
-    let r = given (attributeAt (after blank (x ∷ s))) [] (λ a. a .0 ∷ attributes (length s - length (a .1)) s) in
+-- "blanks must stand between attributes": those of a tag, from behind its name on. s stands at `at`, and `k` bytes are still to pass
+unfoldable pub attributes : ℕ → ℕ → List ℕ → List Attribute
+attributes at k [] = []
+attributes at (suc k) (x ∷ s) = attributes (at + 1) k s
+attributes at zero (x ∷ s) =
+    let p = at + length (while blank (x ∷ s)) in
+    let r = given (attributeAt (after blank (x ∷ s))) [] (λ a.
+    record { place = p; name = a .0 .0; value = a .0 .1 } ∷ attributes (at + 1) (length s - length (a .1)) s) in
     cond (blank x) r []
 
 -- the end of that tag: whether it is `/>`, and what follows it
@@ -95,12 +99,13 @@ unfoldable pub twice : List Attribute → Bool
 twice [] = false
 twice (a ∷ s) = any (bears (a .name)) s || twice s
 
--- behind `<`
-unfoldable pub startTag : List ℕ → Option (Piece × List ℕ)
-startTag s = do
+-- behind `<`, at the place `at`
+unfoldable pub startTag : ℕ → List ℕ → Option (Piece × List ℕ)
+startTag at s = do
   n ← nameAt s
   e ← tagEnd 0 (n .1)
-  cond (twice (attributes 0 (n .1))) none (some (start (n .0) (attributes 0 (n .1)) (e .0), e .1))
+  let given = attributes (at + length (n .0)) 0 (n .1)
+  cond (twice given) none (some (start (n .0) given (e .0), e .1))
 
 -- behind `</`
 unfoldable pub endTag : List ℕ → Option (Piece × List ℕ)
@@ -191,15 +196,15 @@ unfoldable pub orMalformed : Option (Piece × List ℕ) → Piece × List ℕ
 orMalformed none = (malformed, [])
 orMalformed (some c) = c
 
--- the piece at the front, and what follows it
-unfoldable pub pieceAt : List ℕ → Piece × List ℕ
-pieceAt s =
+-- the piece at the front of s, which stands at `at`, and what follows it
+unfoldable pub pieceAt : ℕ → List ℕ → Piece × List ℕ
+pieceAt at s =
     cond (begins (ascii "<") s)
     (cond (begins (ascii "<!DOCTYPE") s || begins (ascii "<![CDATA[") s) (unsupported, [])
     (cond (begins (ascii "<!--") s) (orMalformed (comment (drop 4 s)))
     (cond (begins (ascii "<?") s) (orMalformed (instruction (drop 2 s)))
     (cond (begins (ascii "</") s) (orMalformed (endTag (drop 2 s)))
-    (orMalformed (startTag (drop 1 s)))))))
+    (orMalformed (startTag (at + 1) (drop 1 s)))))))
     (cond (begins (ascii "&") s) (orMalformed (reference (drop 1 s)))
     (orMalformed (run s)))
 
@@ -208,7 +213,7 @@ unfoldable pub pieces : ℕ → ℕ → List ℕ → List (ℕ × Piece)
 pieces at k [] = []
 pieces at (suc k) (x ∷ s) = pieces (at + 1) k s
 pieces at zero (x ∷ s) =
-    let c = pieceAt (x ∷ s) in
+    let c = pieceAt at (x ∷ s) in
     (at, c .0) ∷ pieces (at + 1) (length s - length (c .1)) s
 
 unfoldable pub pieces-page : Unit {0}

@@ -14,9 +14,31 @@ use Rattle.cdi.specs.Tree.{Nodes, end, element, other}
 use Rattle.cdi.specs.Numbers.{trimmed, number, within, bounded}
 use Rattle.cdi.specs.Rows.{Form, fixed, range, size, formatting, AttributeRule, ChildRule, Row, rowOf, documentRow, intSizes}
 
--- 8 "element, order, count, attribute set, fixed text or stray text against the table of elements"
-abbrev pub offTable : ℕ → Fault
-offTable p = fault 8 p
+-- "Split it: unknown element, element out of order, element too often, missing child, unknown attribute, missing attribute, wrong fixed text
+-- (root attributes or formatting), stray text." "81 to 88 in that order"
+abbrev pub unknownElement : ℕ → Fault
+unknownElement p = fault 81 p
+
+abbrev pub outOfOrder : ℕ → Fault
+outOfOrder p = fault 82 p
+
+abbrev pub tooOften : ℕ → Fault
+tooOften p = fault 83 p
+
+abbrev pub missingChild : ℕ → Fault
+missingChild p = fault 84 p
+
+abbrev pub unknownAttribute : ℕ → Fault
+unknownAttribute p = fault 85 p
+
+abbrev pub missingAttribute : ℕ → Fault
+missingAttribute p = fault 86 p
+
+abbrev pub wrongText : ℕ → Fault
+wrongText p = fault 87 p
+
+abbrev pub strayText : ℕ → Fault
+strayText p = fault 88 p
 
 -- 9 "not a number"
 abbrev pub noNumber : ℕ → Fault
@@ -26,7 +48,7 @@ noNumber p = fault 9 p
 abbrev pub outOfRange : ℕ → Fault
 outOfRange p = fault 10 p
 
--- ── attributes: "`<` of the tag" ──
+-- ── attributes: "`<` of the tag", "but 85 and 87 stand at the attribute name's first byte" ──
 
 -- the value of the attribute of that name
 unfoldable pub attributeValue : List ℕ → List Attribute → Option (List ℕ)
@@ -43,25 +65,39 @@ unfoldable pub rangeFaults : ℕ → (ℤ → Bool) → Option ℤ → List Faul
 rangeFaults p inRange none = noNumber p ∷ []
 rangeFaults p inRange (some z) = unless (inRange z) (outOfRange p)
 
+-- a number or a size, at the tag's `<`
 unfoldable pub formFaults : ℕ → Form → List ℕ → List Fault
-formFaults p (fixed t) v = unless (same v (ascii t)) (offTable p)
+formFaults p (fixed t) v = []
 formFaults p (range lo hi) v = rangeFaults p (within lo hi) (number v)
 -- "a token, not a number: blanks at its ends are dropped"
 formFaults p (size ts) v = unless (among (trimmed v) (map ascii ts)) (outOfRange p)
-formFaults p formatting v = unless (isFormatting v) (offTable p)
+formFaults p formatting v = []
 
 unfoldable pub ruleFaults : ℕ → AttributeRule → List Attribute → List Fault
-ruleFaults p a s = given (attributeValue (a .name) s) (unless (not (a .required)) (offTable p)) (formFaults p (a .form))
+ruleFaults p a s = given (attributeValue (a .name) s) (unless (not (a .required)) (missingAttribute p)) (formFaults p (a .form))
 
 unfoldable pub rulesFaults : ℕ → List AttributeRule → List Attribute → List Fault
 rulesFaults p [] s = []
 rulesFaults p (a ∷ rules) s = ruleFaults p a s ++ rulesFaults p rules s
 
-unfoldable pub known : List AttributeRule → Attribute → Bool
-known rules a = any (λ r. same (a .name) (r .name)) rules
+-- "wrong fixed text (root attributes or formatting)", at the name
+unfoldable pub textFaults : Form → Attribute → List Fault
+textFaults (fixed t) a = unless (same (a .value) (ascii t)) (wrongText (a .place))
+textFaults (range lo hi) a = []
+textFaults (size ts) a = []
+textFaults formatting a = unless (isFormatting (a .value)) (wrongText (a .place))
+
+-- one attribute by the row's rules: it is unknown, or its text is wrong
+unfoldable pub nameFaults : List AttributeRule → Attribute → List Fault
+nameFaults [] a = unknownAttribute (a .place) ∷ []
+nameFaults (r ∷ rules) a = let more = nameFaults rules a in cond (same (a .name) (r .name)) (textFaults (r .form) a) more
+
+unfoldable pub namesFaults : List AttributeRule → List Attribute → List Fault
+namesFaults rules [] = []
+namesFaults rules (a ∷ s) = nameFaults rules a ++ namesFaults rules s
 
 unfoldable pub attributeFaults : ℕ → Row → List Attribute → List Fault
-attributeFaults p r s = unless (all (known (r .attributes)) s) (offTable p) ++ rulesFaults p (r .attributes) s
+attributeFaults p r s = rulesFaults p (r .attributes) s ++ namesFaults (r .attributes) s
 
 -- ── children: order and count ──
 
@@ -84,9 +120,9 @@ entryOf r n = entryFrom 1 (r .children) n
 -- "A child is unknown if the parent's row lacks it, out of order after one listed later"; too often: the second and every further one
 unfoldable pub childFaults : Row → Before → ℕ → List ℕ → List Fault
 childFaults r b p n =
-    given (entryOf r n) (offTable p ∷ []) (λ e.
-    unless (not (ltb (e .0) (b .last))) (offTable p)
-    ++ unless (e .1 || not (any (eqb (e .0)) (b .seen))) (offTable p))
+    given (entryOf r n) (unknownElement p ∷ []) (λ e.
+    unless (not (ltb (e .0) (b .last))) (outOfOrder p)
+    ++ unless (e .1 || not (any (eqb (e .0)) (b .seen))) (tooOften p))
 
 -- the children before the next one; an unknown child takes no part
 unfoldable pub behind : Row → Before → List ℕ → Before
@@ -100,12 +136,12 @@ hasChild ns (element p n s kids following) = among n ns || hasChild ns following
 -- "missing only if it stands nowhere in the parent": at "the parent if something is missing"
 unfoldable pub missingFaults : ℕ → List ChildRule → Nodes → List Fault
 missingFaults p [] kids = []
-missingFaults p (c ∷ cs) kids = unless (not (c .needed) || hasChild (c .names) kids) (offTable p) ++ missingFaults p cs kids
+missingFaults p (c ∷ cs) kids = unless (not (c .needed) || hasChild (c .names) kids) (missingChild p) ++ missingFaults p cs kids
 
 -- "Only blanks, comments and instructions stand between children": "the first stray byte"
 unfoldable pub strayFaults : Row → ℕ → Piece → List Fault
-strayFaults r p (text s) = unless (r .text || all blank s) (offTable (p + length (while blank s)))
-strayFaults r p (refer c) = unless (r .text) (offTable p)
+strayFaults r p (text s) = unless (r .text || all blank s) (strayText (p + length (while blank s)))
+strayFaults r p (refer c) = unless (r .text) (strayText p)
 strayFaults r p remark = []
 strayFaults r p (start n s e) = []
 strayFaults r p (finish n) = []
@@ -251,5 +287,5 @@ unfoldable pub elementFaults : Nodes → List Fault
 elementFaults t = faultsIn documentRow false nothingBefore t
 
 unfoldable pub rules-page : Unit {0}
-unfolding attributeValue isFormatting rangeFaults formFaults ruleFaults rulesFaults known attributeFaults nothingBefore entryFrom entryOf childFaults behind hasChild missingFaults strayFaults ownText ownNumber numberNames numberFaults boundOf isSigned largest smallest storable boundsOf boundFaults sound sizeText tested natural sizeOf isInt intFaults ownFaults isKnown faultsIn elementFaults
+unfolding attributeValue isFormatting rangeFaults formFaults ruleFaults rulesFaults textFaults nameFaults namesFaults attributeFaults nothingBefore entryFrom entryOf childFaults behind hasChild missingFaults strayFaults ownText ownNumber numberNames numberFaults boundOf isSigned largest smallest storable boundsOf boundFaults sound sizeText tested natural sizeOf isInt intFaults ownFaults isKnown faultsIn elementFaults
 rules-page = tt

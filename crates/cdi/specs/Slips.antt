@@ -36,7 +36,17 @@ slips =
     -- no `--` inside a comment, at its end neither
     ∷ (plans (single "<!-- a --->") 16, refusal 4 174 (lent 16))
     -- a reference to a carriage return is one to an XML character, and as text between children it is stray
-    ∷ (plans (single "&#13;") 16, refusal 8 174 (lent 16))
+    ∷ (plans (single "&#13;") 16, refusal 88 174 (lent 16))
+    -- an unknown attribute stands at its own name, of two the first; what stands at the tag's `<` comes before
+    ∷ (plans (single "<int a=\"\" size=\"2\" b=\"\"/>") 16, refusal 85 179 (lent 16))
+    ∷ (plans (single "<int a=\"\" size=\"3\"/>") 16, refusal 10 174 (lent 16))
+    ∷ (plans (single "<string a=\"\"/>") 16, refusal 86 174 (lent 16))
+    ∷ (plans (single "<float size=\"2\" \n formatting=\"x\" a=\"\"/>") 16, refusal 87 192 (lent 16))
+    -- out of order comes before too often
+    ∷ (plans (single "<group><name/><description/><name/></group>") 16, refusal 82 202 (lent 16))
+    ∷ (plans (single "<group><name/><name/></group>") 16, refusal 83 188 (lent 16))
+    -- a relation that lacks its value is told at its own `<`
+    ∷ (plans (single "<int><map><relation><property>1</property></relation></map></int>") 16, refusal 84 184 (lent 16))
     -- a group without members adds its offset once, whatever its replication
     ∷ (
       plans (single "<group replication=\"2\" offset=\"5\"/>") 16,
@@ -49,9 +59,14 @@ unfolding all-pages opened single toldOf countsTold lent window answer slips
 come-out = refl
 
 -- of several faults the one at the smallest place, and there the one with the smallest number
-pub place-first : least (fault 8 30 ∷ fault 10 20 ∷ fault 9 20 ∷ []) ≡ some (fault 9 20)
+pub place-first : least (fault 81 30 ∷ fault 10 20 ∷ fault 9 20 ∷ []) ≡ some (fault 9 20)
 unfolding all-pages
 place-first = refl
+
+-- 81 to 88 come before 9, though they are larger
+pub rank-first : least (fault 9 20 ∷ fault 88 20 ∷ fault 85 20 ∷ []) ≡ some (fault 85 20)
+unfolding all-pages
+rank-first = refl
 
 -- a zero at place 65,535 is in time, and one at 65,536 is not
 pub in-time : content (replicate 65535 32 ++ 0 ∷ []) ≡ some (replicate 65535 32)

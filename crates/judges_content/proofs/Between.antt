@@ -103,13 +103,13 @@ module _ (j : Judge) (p : ℕ) (c : Piece) where
 module _ (j : Judge) (l said m : ℕ) {t u : Bool} (e : t ≡ rowAt (j .row) .text) (f : u ≡ isNumeric (j .row)) where
   -- a run of text
   pub run-judged : (s : List ℕ) (at end solid : ℕ) → at < end → end ≤ length s → solid ≡ at + length (while blank (part s at end))
-      → faultIn l ≡ lesser (faultIn (j .least)) (least (unless (t || eqb solid end) (fault 8 solid)))
+      → faultIn l ≡ lesser (faultIn (j .least)) (least (unless (t || eqb solid end) (fault 88 solid)))
       → saidOf said m ≡ cond (j .numeric && u) (spoken (saidOf (j .said) (j .magnitude)) (text (part s at end))) (saidOf (j .said) (j .magnitude))
       → judgeOf (next j l said m) ≡ otherOf (judgeOf j) at (text (part s at end))
   run-judged s at end solid h k q g w =
       other-judged j at (text (part s at end)) l said m (key-blamed-with l (j .least) _ g ∙ ap (blamed (leastIn (j .least))) (sym stray)) (w ∙ rw f)
     where
-      stray : strayFaults (rowAt (j .row)) at (text (part s at end)) ≡ unless (t || eqb solid end) (fault 8 solid)
+      stray : strayFaults (rowAt (j .row)) at (text (part s at end)) ≡ unless (t || eqb solid end) (fault 88 solid)
       stray = unfold strayFaults in rw (e, q, ← run-blank s at end _ (omega arith) k refl)
 
 -- ── comments, instructions and references ──
@@ -123,22 +123,22 @@ rare-word Large refers = refl
 rare-word (Value w) refers = refl
 
 pub rare-judged : (j : Judge) (l said : ℕ) {t u : Bool} (p : ℕ) (refers : Bool) → t ≡ rowAt (j .row) .text → u ≡ isNumeric (j .row)
-    → faultIn l ≡ lesser (faultIn (j .least)) (least (unless (t || not refers) (fault 8 p)))
+    → faultIn l ≡ lesser (faultIn (j .least)) (least (unless (t || not refers) (fault 88 p)))
     → said ≡ cond (j .numeric && u) 1 (j .said)
     → judgeOf (next j l said (j .magnitude)) ≡ otherOf (judgeOf j) p (rareOf refers)
 unfolding unless
 rare-judged j l said {t} {u} p refers e f g w =
     other-judged j p (rareOf refers) l said (j .magnitude) (key-blamed-with l (j .least) _ g ∙ ap (blamed (leastIn (j .least))) (sym (stray refers))) (word (j .numeric && u) (w) ∙ rw f)
   where
-    stray : (refers : Bool) → strayFaults (rowAt (j .row)) p (rareOf refers) ≡ unless (t || not refers) (fault 8 p)
+    stray : (refers : Bool) → strayFaults (rowAt (j .row)) p (rareOf refers) ≡ unless (t || not refers) (fault 88 p)
     stray true = unfold strayFaults rareOf in rw e (by (rowAt (j .row) .text))
       where
-        by : (b : Bool) → unless b (fault 8 p) ≡ unless (b || false) (fault 8 p)
+        by : (b : Bool) → unless b (fault 88 p) ≡ unless (b || false) (fault 88 p)
         by true = refl
         by false = refl
     stray false = unfold strayFaults rareOf unless in by t
       where
-        by : (b : Bool) → [] ≡ unless (b || true) (fault 8 p)
+        by : (b : Bool) → [] ≡ unless (b || true) (fault 88 p)
         by true = refl
         by false = refl
 

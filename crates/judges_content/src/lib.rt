@@ -91,7 +91,7 @@ pub fn with_run(j: Judge, s: &[u8], at: usize, end: usize, solid: usize) -> Judg
     ensures { λ r. ⌜ judgeOf r ≡ otherOf (judgeOf j) at (text (part (now (s .entry)) at end)) ⌝ }
     ensures places { λ r. ⌜ Placed r ⌝ }
 {
-    let least = blame_unless(holds_text(j.row) | (solid == end), j.least, 8, solid);
+    let least = blame_unless(holds_text(j.row) | (solid == end), j.least, 88, solid);
     let n = said_with(
         j.numeric & is_numeric(j.row),
         j.said,
@@ -113,7 +113,7 @@ pub fn with_rare(j: Judge, at: usize, refers: bool) -> Judge
     ensures { λ r. ⌜ judgeOf r ≡ otherOf (judgeOf j) at (rareOf refers) ⌝ }
     ensures places { λ r. ⌜ Placed r ⌝ }
 {
-    let least = blame_unless(holds_text(j.row) | !refers, j.least, 8, at);
+    let least = blame_unless(holds_text(j.row) | !refers, j.least, 88, at);
     let said = said_behind(j.numeric & is_numeric(j.row), j.said);
     let mut r = j;
     r.least = least;

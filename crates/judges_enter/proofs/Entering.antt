@@ -1,15 +1,15 @@
 -- Entering a child, by each way through the code.
 use mathlib.Core.Path.{_≡_, _∙_}
-use mathlib.Core.Bool.{Bool, true, false, _||_}
+use mathlib.Core.Bool.{Bool, true, false, cond, _||_}
 use mathlib.Core.Option.{some}
-use Prim.Native.Nat.{ℕ}
+use Prim.Native.Nat.{ℕ, _≤_, _<_}
 use borrow.Author.Needs.{needs}
-use borrow.Author.Tests.{eq-eqb, ne-eqb}
+use borrow.Author.Tests.{lt-ltb, le-ltb, eq-eqb, ne-eqb}
 use lib.Dec.{eqb}
 use Rattle.cdi.specs.Faults.{fault, lesser}
 use Rattle.keys.specs.Keys.{faultIn}
 use Rattle.rules_judge.specs.Judging.{blamed, fresh}
-use Rattle.rules_judge.specs.Tables.{manyAt, inTurn}
+use Rattle.rules_judge.specs.Tables.{manyAt, inTurn, turnNumber}
 use Rattle.judges_state.specs.declared.Judge.{Judge}
 use Rattle.judges_state.specs.Decoded.{leastIn, judgeOf}
 use Rattle.judges_state.specs.Steps.{faultsOf, rowIn, tagFaults, turnOf, enteredBy}
@@ -27,38 +27,62 @@ own-row entry child e = rw (ne-eqb entry 0 e)
 
 pub ruleset rows-in = (no-row, own-row, needs)
 
+-- ── order and count ──
+
+module _ (last entry : ℕ) where
+  pub out-of-order : entry < last → 82 ≡ turnNumber last entry
+  unfolding turnNumber
+  out-of-order h = rw (lt-ltb entry last h)
+
+  pub too-often : last ≤ entry → 83 ≡ turnNumber last entry
+  unfolding turnNumber
+  too-often h = rw (le-ltb entry last h)
+
+pub ruleset turns = (out-of-order, too-often, needs)
+
+-- ── the place ──
+
+pub at-tag : (p wrong : ℕ) → wrong ≡ 0 → p ≡ cond (eqb wrong 0) p wrong
+at-tag p wrong e = rw (eq-eqb wrong 0 e)
+
+pub at-name : (p wrong : ℕ) → (wrong ≡ 0 → ⊥) → wrong ≡ cond (eqb wrong 0) p wrong
+at-name p wrong e = rw (ne-eqb wrong 0 e)
+
+pub ruleset tag-place = (at-tag, at-name, needs)
+
 -- ── the faults of a tag ──
 
-module _ (l p row entry n : ℕ) (turn : Bool) where
-  pub not-judged : entry ≡ 0 → row ≡ 24 → leastIn l ≡ blamed (leastIn l) (tagFaults p row entry turn n)
+module _ (l p row last entry n wrong : ℕ) (turn : Bool) where
+  pub not-judged : entry ≡ 0 → row ≡ 24 → leastIn l ≡ blamed (leastIn l) (tagFaults p row last entry turn n wrong)
   unfolding tagFaults
   not-judged e f = key-kept l _ (rw (eq-eqb entry 0 e, eq-eqb row 24 f))
 
-  pub no-entry : (r : ℕ) → entry ≡ 0 → (row ≡ 24 → ⊥) → faultIn r ≡ lesser (faultIn l) (some (fault 8 p)) → leastIn r ≡ blamed (leastIn l) (tagFaults p row entry turn n)
+  pub no-entry : (r : ℕ) → entry ≡ 0 → (row ≡ 24 → ⊥) → faultIn r ≡ lesser (faultIn l) (some (fault 81 p)) → leastIn r ≡ blamed (leastIn l) (tagFaults p row last entry turn n wrong)
   unfolding tagFaults
-  no-entry r e f g = key-blamed r l 8 p _ (rw (eq-eqb entry 0 e, ne-eqb row 24 f)) g
+  no-entry r e f g = key-blamed r l 81 p _ (rw (eq-eqb entry 0 e, ne-eqb row 24 f)) g
 
   module _ (e : entry ≡ 0 → ⊥) where
-    pub no-turn : (r : ℕ) → turn ≡ false → faultIn r ≡ lesser (faultIn l) (some (fault 8 p)) → leastIn r ≡ blamed (leastIn l) (tagFaults p row entry turn n)
+    pub no-turn : (r : ℕ) {m : ℕ} → turn ≡ false → m ≡ turnNumber last entry → faultIn r ≡ lesser (faultIn l) (some (fault m p)) → leastIn r ≡ blamed (leastIn l) (tagFaults p row last entry turn n wrong)
     unfolding tagFaults
-    no-turn r f g = key-blamed r l 8 p _ (rw (ne-eqb entry 0 e, f)) g
+    no-turn r {m} f x g = key-blamed r l m p _ (rw (ne-eqb entry 0 e, f, x)) g
 
-    pub good : turn ≡ true → n ≡ 0 → leastIn l ≡ blamed (leastIn l) (tagFaults p row entry turn n)
+    pub good : turn ≡ true → n ≡ 0 → leastIn l ≡ blamed (leastIn l) (tagFaults p row last entry turn n wrong)
     unfolding tagFaults faultsOf
     good f g = key-kept l _ (rw (ne-eqb entry 0 e, f, eq-eqb n 0 g))
 
-    pub attributes-wrong : (r : ℕ) → turn ≡ true → (n ≡ 0 → ⊥) → faultIn r ≡ lesser (faultIn l) (some (fault n p)) → leastIn r ≡ blamed (leastIn l) (tagFaults p row entry turn n)
+    pub attributes-wrong : (r : ℕ) {q : ℕ} → turn ≡ true → (n ≡ 0 → ⊥) → q ≡ cond (eqb wrong 0) p wrong → faultIn r ≡ lesser (faultIn l) (some (fault n q))
+        → leastIn r ≡ blamed (leastIn l) (tagFaults p row last entry turn n wrong)
     unfolding tagFaults faultsOf
-    attributes-wrong r f g h = key-blamed r l n p _ (rw (ne-eqb entry 0 e, f, ne-eqb n 0 g)) h
+    attributes-wrong r {q} f g x h = key-blamed r l n q _ (rw (ne-eqb entry 0 e, f, ne-eqb n 0 g, x)) h
 
 pub ruleset tag-faults = (not-judged, no-entry, no-turn, good, attributes-wrong, needs)
 
 -- ── the judge inside ──
 
-pub entered-with : (j : Judge) (p child entry n l row : ℕ) (r : Judge) {turn : Bool} → turn ≡ inTurn (j .last) entry (eqb entry (manyAt (j .row)))
-    → leastIn l ≡ blamed (leastIn (j .least)) (tagFaults p (j .row) entry turn n) → row ≡ rowIn entry child
-    → judgeOf r ≡ fresh (leastIn l) row (j .numeric || eqb row 6) → judgeOf r ≡ enteredBy (judgeOf j) p child entry n
+pub entered-with : (j : Judge) (p child entry n wrong l row : ℕ) (r : Judge) {turn : Bool} → turn ≡ inTurn (j .last) entry (eqb entry (manyAt (j .row)))
+    → leastIn l ≡ blamed (leastIn (j .least)) (tagFaults p (j .row) (j .last) entry turn n wrong) → row ≡ rowIn entry child
+    → judgeOf r ≡ fresh (leastIn l) row (j .numeric || eqb row 6) → judgeOf r ≡ enteredBy (judgeOf j) p child entry n wrong
 unfolding enteredBy turnOf judgeOf
-entered-with j p child entry n l row r e f g h = h ∙ rw (f, e, g)
+entered-with j p child entry n wrong l row r e f g h = h ∙ rw (f, e, g)
 
 pub ruleset entering = (entered-with, needs)

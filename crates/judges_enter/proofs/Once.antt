@@ -5,5 +5,5 @@ use Rattle.judges_state.specs.declared.Judge.{Judge}
 use Rattle.judges_state.specs.Decoded.{judgeOf}
 use Rattle.judges_state.specs.Steps.{enteredBy}
 
-pub enter-once : (j : Judge) (p child entry n : ℕ) (q r : Judge) → judgeOf q ≡ enteredBy (judgeOf j) p child entry n → judgeOf r ≡ enteredBy (judgeOf j) p child entry n → judgeOf q ≡ judgeOf r
-enter-once j p child entry n q r e f = e ∙ sym f
+pub enter-once : (j : Judge) (p child entry n wrong : ℕ) (q r : Judge) → judgeOf q ≡ enteredBy (judgeOf j) p child entry n wrong → judgeOf r ≡ enteredBy (judgeOf j) p child entry n wrong → judgeOf q ≡ judgeOf r
+enter-once j p child entry n wrong q r e f = e ∙ sym f

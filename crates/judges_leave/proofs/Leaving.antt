@@ -76,9 +76,9 @@ module _ (p child size : ℕ) (numeric : Bool) (i : Known) where
   no-int e = rw (ne-eqb child 6 e)
 
   -- a relation and an int are no numbers
-  relation-faults : child ≡ 11 → contentFaults p child numeric size i ≡ unless (i .one && i .two) (fault 8 p)
+  relation-faults : child ≡ 11 → contentFaults p child numeric size i ≡ unless (i .one && i .two) (fault 84 p)
   unfolding contentFaults missingBy isNumeric
-  relation-faults e = rw (none-asked (rw e (and-false numeric)), no-int (λ z. omega arith), eq-eqb child 11 e) (append-nil (unless (i .one && i .two) (fault 8 p)))
+  relation-faults e = rw (none-asked (rw e (and-false numeric)), no-int (λ z. omega arith), eq-eqb child 11 e) (append-nil (unless (i .one && i .two) (fault 84 p)))
 
   int-faults : child ≡ 6 → contentFaults p child numeric size i ≡ intBy p child (sizeAt size) i
   unfolding contentFaults isNumeric
@@ -89,7 +89,7 @@ module _ (p child size : ℕ) (numeric : Bool) (i : Known) where
   other-faults e f = rw (none-missing e, no-int f) (append-nil (numberBy p numeric child (i .said)))
 
 module _ (l p child size : ℕ) (numeric : Bool) (i : Judge) where
-  pub relation-told : (r : ℕ) → child ≡ 11 → faultIn r ≡ lesser (faultIn l) (least (unless (i .one && i .two) (fault 8 p)))
+  pub relation-told : (r : ℕ) → child ≡ 11 → faultIn r ≡ lesser (faultIn l) (least (unless (i .one && i .two) (fault 84 p)))
       → leastIn r ≡ blamed (leastIn l) (contentFaults p child numeric size (judgeOf i))
   unfolding judgeOf
   relation-told r e f = key-blamed-with r l _ f ∙ ap (blamed (leastIn l)) (sym (relation-faults p child size numeric (judgeOf i) e))

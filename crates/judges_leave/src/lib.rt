@@ -51,7 +51,7 @@ fn content_blame(
     ensures { λ r. ⌜ leastIn r ≡ blamed (leastIn least) (contentFaults at child numeric size (judgeOf inner)) ⌝ }
 {
     if child == 11 {
-        return blame_unless(inner.one & inner.two, least, 8, at);
+        return blame_unless(inner.one & inner.two, least, 84, at);
     }
     if child == 6 {
         if size == 0 {

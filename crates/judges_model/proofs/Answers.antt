@@ -2,12 +2,13 @@
 use mathlib.Core.Path.{_≡_, refl, sym, ap, _∙_}
 use mathlib.Core.List.{List, []}
 use mathlib.Core.Bool.{Bool, true, false, cond, not, _&&_, _||_}
-use Prim.Native.Nat.{ℕ, _≤_, _<_}
+use Prim.Native.Nat.{ℕ, _+_, _≤_, _<_}
 use Rattle.cdi.specs.Lists.{isEmpty, lists-page}
 use Rattle.cdi.specs.Faults.{least}
 use Rattle.cdi.specs.Pieces.{Attribute, text, pieces-page}
 use Rattle.cdi.specs.Numbers.{number, numbers-page}
 use Rattle.cdi.specs.Rules.{attributeFaults}
+use Rattle.cdi.proofs.Named.{Behind}
 use Rattle.cdi.proofs.Quiet.{impossible}
 use Rattle.names.specs.Names.{elementNumber}
 use Rattle.rules_judge.specs.declared.Said.the-variants.{Silent, No}
@@ -29,9 +30,10 @@ module _ (j : Judge) (p : ℕ) (n : List ℕ) (s : List Attribute) {child entry 
   unfolding judgeOf
   there = ee
 
-  pub child-entered : (r : Judge) (fault : ℕ) → least (attributeFaults p (rowAt child) s) ≡ least (faultsOf p fault) → judgeOf r ≡ enteredBy (judgeOf j) p child entry fault
+  pub child-entered : (r : Judge) (fault wrong : ℕ) → Behind (p + 1) s → least (attributeFaults p (rowAt child) s) ≡ least (faultsOf p fault wrong)
+      → judgeOf r ≡ enteredBy (judgeOf j) p child entry fault wrong
       → judgeOf r ≡ enterOf (judgeOf j) p n s
-  child-entered r fault e f = f ∙ entered (judgeOf j) p n s fault ec there e
+  child-entered r fault wrong b e f = f ∙ entered (judgeOf j) p n s b fault wrong ec there e
 
   -- an int has that size; of other elements none is asked
   pub child-left-where : (i r : Judge) {bare : Bool} {size : ℕ} → bare ≡ isEmpty s → (child ≡ 6 → size ≡ intSize s) → judgeOf r ≡ leftBy (judgeOf j) p child entry bare size (judgeOf i)

@@ -4,76 +4,78 @@ use mathlib.Core.List.{List, [], _∷_, _++_}
 use mathlib.Core.Bool.{Bool, true, false, cond, not, _||_}
 use mathlib.Core.Option.{Option, none, some}
 use mathlib.Core.Logic.{⊎-elim}
-use Prim.Native.Nat.{ℕ}
+use Prim.Native.Nat.{ℕ, _+_, _≤_}
 use native.Mathlib.Omega.{arith}
-use borrow.Author.Tests.{le-ltb, eq-eqb, ne-eqb}
-use lib.Dec.{leb}
+use borrow.Author.Tests.{le-ltb, le-leb, leb-true, eq-eqb, ne-eqb}
+use lib.Dec.{leb, ltb}
 use lib.IntN.{ℤ}
-use Rattle.cdi.specs.Lists.{given, all}
-use Rattle.cdi.specs.Faults.{Fault, fault, unless, before, lesser, least}
+use Rattle.cdi.specs.Lists.{given, between}
+use Rattle.cdi.specs.Faults.{Fault, fault, unless, rank, before, lesser, least}
 use Rattle.cdi.specs.Pieces.{Attribute}
 use Rattle.cdi.specs.Rows.{Form, fixed, range, size, formatting, AttributeRule, Row}
-use Rattle.cdi.specs.Rules.{offTable, attributeValue, rangeFaults, formFaults, ruleFaults, rulesFaults, known, attributeFaults}
+use Rattle.cdi.specs.Rules.{attributeValue, rangeFaults, formFaults, ruleFaults, rulesFaults, namesFaults, attributeFaults}
 use Rattle.cdi.proofs.Least.{lesser-assoc, least-append}
+use Rattle.cdi.proofs.Named
+use Rattle.cdi.proofs.Named.{names-silent}
 use Rattle.scan.proofs.Tests.{eq-or-ne}
 use Rattle.names.specs.Names.{elementNumber}
 use Rattle.rules_judge.specs.declared.Least.{Least}
 use Rattle.rules_judge.specs.declared.Judge.{Judge}
 use Rattle.rules_judge.specs.Judging.{asFault, toLeast, blamed, rowAt, enterOf}
-use Rattle.rules_judge.specs.Tables.{entryAt}
+use Rattle.rules_judge.specs.Tables.{entryAt, turnNumber}
 use Rattle.rules_judge.proofs.Blaming.{blamed-none, blamed-append}
 use Rattle.rules_judge.proofs.Tabled.{no-entry}
 use Rattle.rules.proofs.Passing.{foreign-entered, unknown-entered, known-entered}
 use Rattle.judges_state.specs.Steps.{faultsOf, rowIn, tagFaults, turnOf, enteredBy}
 
--- ── the faults of attributes are 8, 9 and 10 at the tag ──
+-- ── the faults of attributes come behind those of order and count ──
 
--- beside an 8 at that place none of the faults speaks
-Behind : ℕ → List Fault → Type 0
-Behind p fs = lesser (some (offTable p)) (least fs) ≡ some (offTable p)
+-- beside one of that number at the tag none of the faults speaks
+Behind : ℕ → ℕ → List Fault → Type 0
+Behind m p fs = lesser (some (fault m p)) (least fs) ≡ some (fault m p)
 
-module _ (p : ℕ) where
-  behind-none : Behind p []
+module _ (m p : ℕ) (low : rank m ≤ 10) where
+  behind-none : Behind m p []
   unfolding Behind least lesser
   behind-none = refl
 
-  behind-unless : (t : Bool) (n : ℕ) → leb 8 n ≡ true → Behind p (unless t (fault n p))
+  behind-unless : (t : Bool) (n : ℕ) → leb 10 (rank n) ≡ true → Behind m p (unless t (fault n p))
   unfolding Behind unless least lesser before
   behind-unless true n h = refl
-  behind-unless false n h = rw (le-ltb p p (omega arith), eq-eqb p p refl, h)
+  behind-unless false n h = rw (le-ltb p p (omega arith), eq-eqb p p refl, le-leb (rank m) (rank n) (omega (arith, leb-true 10 (rank n) h)))
 
-  behind-append : (fs gs : List Fault) → Behind p fs → Behind p gs → Behind p (fs ++ gs)
+  behind-append : (fs gs : List Fault) → Behind m p fs → Behind m p gs → Behind m p (fs ++ gs)
   unfolding Behind
-  behind-append fs gs e f = ap (lesser (some (offTable p))) (least-append fs gs) ∙ sym (lesser-assoc (some (offTable p)) (least fs) (least gs)) ∙ ap (λ (o : Option Fault). lesser o (least gs)) e ∙ f
+  behind-append fs gs e f = ap (lesser (some (fault m p))) (least-append fs gs) ∙ sym (lesser-assoc (some (fault m p)) (least fs) (least gs)) ∙ ap (λ (o : Option Fault). lesser o (least gs)) e ∙ f
 
-  range-behind : (test : ℤ → Bool) (o : Option ℤ) → Behind p (rangeFaults p test o)
-  unfolding rangeFaults
+  range-behind : (test : ℤ → Bool) (o : Option ℤ) → Behind m p (rangeFaults p test o)
+  unfolding rangeFaults rank between
   range-behind test none = unfold unless in behind-unless false 9 refl
   range-behind test (some z) = behind-unless (test z) 10 refl
 
-  form-behind : (f : Form) (v : List ℕ) → Behind p (formFaults p f v)
-  unfolding formFaults
-  form-behind (fixed t) v = behind-unless _ 8 refl
+  form-behind : (f : Form) (v : List ℕ) → Behind m p (formFaults p f v)
+  unfolding formFaults rank between
+  form-behind (fixed t) v = behind-none
   form-behind (range lo hi) v = range-behind _ _
   form-behind (size ts) v = behind-unless _ 10 refl
-  form-behind formatting v = behind-unless _ 8 refl
+  form-behind formatting v = behind-none
 
-  rule-behind : (a : AttributeRule) (s : List Attribute) → Behind p (ruleFaults p a s)
+  rule-behind : (a : AttributeRule) (s : List Attribute) → Behind m p (ruleFaults p a s)
   unfolding ruleFaults
   rule-behind a s = by (attributeValue (a .name) s)
     where
-      by : (o : Option (List ℕ)) → Behind p (given o (unless (not (a .required)) (offTable p)) (formFaults p (a .form)))
-      by none = behind-unless (not (a .required)) 8 refl
+      by : (o : Option (List ℕ)) → Behind m p (given o (unless (not (a .required)) (fault 86 p)) (formFaults p (a .form)))
+      by none = unfold rank between in behind-unless (not (a .required)) 86 refl
       by (some v) = form-behind (a .form) v
 
-  rules-behind : (rules : List AttributeRule) (s : List Attribute) → Behind p (rulesFaults p rules s)
+  rules-behind : (rules : List AttributeRule) (s : List Attribute) → Behind m p (rulesFaults p rules s)
   unfolding rulesFaults
   rules-behind [] s = behind-none
   rules-behind (a ∷ rules) s = behind-append (ruleFaults p a s) (rulesFaults p rules s) (rule-behind a s) (rules-behind rules s)
 
-  attributes-behind : (r : Row) (s : List Attribute) → Behind p (attributeFaults p r s)
-  unfolding attributeFaults
-  attributes-behind r s = behind-append (unless (all (known (r .attributes)) s) (offTable p)) (rulesFaults p (r .attributes) s) (behind-unless (all (known (r .attributes)) s) 8 refl) (rules-behind (r .attributes) s)
+  attributes-behind : (r : Row) (s : List Attribute) → Named.Behind (p + 1) s → Behind m p (attributeFaults p r s)
+  unfolding attributeFaults Behind
+  attributes-behind r s h = behind-append (rulesFaults p (r .attributes) s) (namesFaults (r .attributes) s) (rules-behind (r .attributes) s) (names-silent m p (r .attributes) s h)
 
 -- ── entering ──
 
@@ -86,28 +88,39 @@ or-false : (t : Bool) → (t || false) ≡ t
 or-false true = refl
 or-false false = refl
 
-module _ (j : Judge) (p : ℕ) (n : List ℕ) (s : List Attribute) (number : ℕ) {child entry : ℕ} (ec : child ≡ elementNumber n) (ee : entry ≡ entryAt (j .row) child) where
-  -- the faults of a tag in its turn, or not
-  told : (t : Bool) → least (attributeFaults p (rowAt child) s) ≡ least (faultsOf p number)
-      → blamed (j .least) (cond t (faultsOf p number) (offTable p ∷ [])) ≡ blamed (blamed (j .least) (unless t (fault 8 p))) (attributeFaults p (rowAt child) s)
-  unfolding unless least lesser Behind
-  told true h = blamed-alike (j .least) (faultsOf p number) (attributeFaults p (rowAt child) s) (sym h) ∙ ap (λ (l : Least). blamed l (attributeFaults p (rowAt child) s)) (blamed-none (j .least))
-  told false h = blamed-alike (j .least) (offTable p ∷ []) (offTable p ∷ attributeFaults p (rowAt child) s) (sym (attributes-behind p (rowAt child) s))
-      ∙ sym (blamed-append (j .least) (offTable p ∷ []) (attributeFaults p (rowAt child) s))
+module _ (j : Judge) (p : ℕ) (n : List ℕ) (s : List Attribute) (w : Named.Behind (p + 1) s) (number wrong : ℕ) {child entry : ℕ} (ec : child ≡ elementNumber n) (ee : entry ≡ entryAt (j .row) child) where
+  low : rank (turnNumber (j .last) entry) ≤ 10
+  unfolding turnNumber rank between
+  low = by (ltb entry (j .last))
+    where
+      by : (t : Bool) → rank (cond t 82 83) ≤ 10
+      by true = omega arith
+      by false = omega arith
 
-  foreign : j .row ≡ 24 → enteredBy j p child entry number ≡ enterOf j p n s
+  -- the faults of a tag in its turn, or not
+  told : (t : Bool) → least (attributeFaults p (rowAt child) s) ≡ least (faultsOf p number wrong)
+      → blamed (j .least) (cond t (faultsOf p number wrong) (fault (turnNumber (j .last) entry) p ∷ []))
+      ≡ blamed (blamed (j .least) (unless t (fault (turnNumber (j .last) entry) p))) (attributeFaults p (rowAt child) s)
+  unfolding unless least lesser Behind
+  told true h = blamed-alike (j .least) (faultsOf p number wrong) (attributeFaults p (rowAt child) s) (sym h) ∙ ap (λ (l : Least). blamed l (attributeFaults p (rowAt child) s)) (blamed-none (j .least))
+  told false h =
+      let f = fault (turnNumber (j .last) entry) p in
+      blamed-alike (j .least) (f ∷ []) (f ∷ attributeFaults p (rowAt child) s) (sym (attributes-behind (turnNumber (j .last) entry) p low (rowAt child) s w))
+      ∙ sym (blamed-append (j .least) (f ∷ []) (attributeFaults p (rowAt child) s))
+
+  foreign : j .row ≡ 24 → enteredBy j p child entry number wrong ≡ enterOf j p n s
   unfolding enteredBy tagFaults rowIn
   foreign e = foreign-entered j p n s e (rw (eq-eqb entry 0 (ee ∙ sym (no-entry (j .row) (omega arith) child)), eq-eqb (j .row) 24 e, ← blamed-none (j .least), or-false (j .numeric)))
 
   module _ (f : j .row ≡ 24 → ⊥) where
-    unknown : entry ≡ 0 → enteredBy j p child entry number ≡ enterOf j p n s
+    unknown : entry ≡ 0 → enteredBy j p child entry number wrong ≡ enterOf j p n s
     unfolding enteredBy tagFaults rowIn
     unknown z = unknown-entered j p n s f ec ee z refl (rw (eq-eqb entry 0 z, ne-eqb (j .row) 24 f, or-false (j .numeric)))
 
-    known-child : (entry ≡ 0 → ⊥) → least (attributeFaults p (rowAt child) s) ≡ least (faultsOf p number) → enteredBy j p child entry number ≡ enterOf j p n s
+    known-child : (entry ≡ 0 → ⊥) → least (attributeFaults p (rowAt child) s) ≡ least (faultsOf p number wrong) → enteredBy j p child entry number wrong ≡ enterOf j p n s
     unfolding enteredBy tagFaults rowIn turnOf
     known-child z h = known-entered j p n s f ec ee z refl refl refl refl (rw (ne-eqb entry 0 z, told (turnOf j entry) h))
 
   -- Entering a child by its number and entry, where the least of its attributes' faults has that number, is entering it by its name.
-  pub entered : least (attributeFaults p (rowAt child) s) ≡ least (faultsOf p number) → enteredBy j p child entry number ≡ enterOf j p n s
+  pub entered : least (attributeFaults p (rowAt child) s) ≡ least (faultsOf p number wrong) → enteredBy j p child entry number wrong ≡ enterOf j p n s
   entered h = ⊎-elim foreign (λ f. ⊎-elim (unknown f) (λ z. known-child f z h) (eq-or-ne entry 0)) (eq-or-ne (j .row) 24)

@@ -10,7 +10,8 @@ use Rattle.cdi.specs.Lists.{isEmpty, all}
 use Rattle.cdi.specs.Faults.{unless, least}
 use Rattle.cdi.specs.Pieces.{text}
 use Rattle.cdi.specs.Numbers.{number}
-use Rattle.cdi.specs.Rules.{rulesFaults, attributeFaults, strayFaults}
+use Rattle.cdi.specs.Rules.{rulesFaults, namesFaults, attributeFaults, strayFaults}
+use Rattle.cdi.proofs.Named.{Behind}
 use Rattle.cdi.proofs.Quiet.{impossible}
 use Rattle.names.specs.Names.{elementNumber}
 use Rattle.rules_judge.specs.declared.Said.{Said}
@@ -48,13 +49,13 @@ module _ (j : Judge) (p : ℕ) (n : List ℕ) {child entry : ℕ} (ec : child �
   in-turn = rw (le-ltb entry (j .last) (omega arith), ne-eqb entry (j .last) (λ z. omega arith), or-true (eqb entry (manyAt (j .row))))
 
   no-faults : attributeFaults p (rowAt child) [] ≡ []
-  unfolding attributeFaults rulesFaults all unless
+  unfolding attributeFaults rulesFaults namesFaults
   no-faults = rw (no-attributes child h)
 
   -- nothing is judged by its tag
   entered-leaf : enterOf j p n [] ≡ fresh (j .least) child (j .numeric)
-  unfolding enteredBy tagFaults rowIn faultsOf
-  entered-leaf = sym (entered j p n [] 0 ec ee (ap least no-faults))
+  unfolding enteredBy tagFaults rowIn faultsOf Behind
+  entered-leaf = sym (entered j p n [] tt 0 0 ec ee (ap least no-faults))
       ∙ rw (ne-eqb entry 0 (λ z. omega arith), in-turn, ← blamed-none (j .least), ne-eqb child 6 (λ z. omega arith), or-false (j .numeric))
 
   -- nor by its text

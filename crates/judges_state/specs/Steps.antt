@@ -5,36 +5,38 @@ use Prim.Native.Nat.{ℕ}
 use lib.Dec.{eqb}
 use Rattle.cdi.specs.Faults.{Fault, fault}
 use Rattle.cdi.specs.Pieces.{Piece, remark, refer}
-use Rattle.cdi.specs.Rules.{offTable}
+use Rattle.cdi.specs.Rules.{unknownElement}
 use Rattle.rules_judge.specs.declared.Said.{Said}
 use Rattle.rules_judge.specs.declared.Said.the-variants.{No}
 use Rattle.rules_judge.specs.declared.Judge.{Judge}
 use Rattle.rules_judge.specs.Judging.{blamed, isValue, fresh, bounding, passed}
-use Rattle.rules_judge.specs.Tables.{manyAt, inTurn}
+use Rattle.rules_judge.specs.Tables.{manyAt, inTurn, turnNumber}
 use Rattle.rules_judge.specs.Parts.{isLimit, missingBy, numberBy, intBy, leftOf}
 
 -- ── entering a child ──
 
--- the fault of that number at a place, or none where it is 0
-unfoldable pub faultsOf : ℕ → ℕ → List Fault
-faultsOf p n = cond (eqb n 0) [] (fault n p ∷ [])
+-- the fault of that number, or none where it is 0: at `wrong`, the place of an attribute's name, or at p where that is 0
+unfoldable pub faultsOf : ℕ → ℕ → ℕ → List Fault
+faultsOf p n wrong = cond (eqb n 0) [] (fault n (cond (eqb wrong 0) p wrong) ∷ [])
 
 -- the number of the row inside a child: a child without an entry isn't judged
 unfoldable pub rowIn : ℕ → ℕ → ℕ
 rowIn entry child = cond (eqb entry 0) 24 child
 
--- the faults of a tag: none where nothing is judged; it has no entry; it doesn't stand in its turn; else the least of its attributes' faults, by its number
-unfoldable pub tagFaults : ℕ → ℕ → ℕ → Bool → ℕ → List Fault
-tagFaults p row entry turn number = cond (eqb entry 0) (cond (eqb row 24) [] (offTable p ∷ [])) (cond turn (faultsOf p number) (offTable p ∷ []))
+-- the faults of a tag behind the last entry: none where nothing is judged; it has no entry; it doesn't stand in its turn; else the least of its
+-- attributes' faults, by its number and place
+unfoldable pub tagFaults : ℕ → ℕ → ℕ → ℕ → Bool → ℕ → ℕ → List Fault
+tagFaults p row last entry turn number wrong =
+    cond (eqb entry 0) (cond (eqb row 24) [] (unknownElement p ∷ [])) (cond turn (faultsOf p number wrong) (fault (turnNumber last entry) p ∷ []))
 
 -- a child of that entry stands in its turn
 unfoldable pub turnOf : Judge → ℕ → Bool
 turnOf j entry = inTurn (j .last) entry (eqb entry (manyAt (j .row)))
 
 -- the judge inside the child of that number and entry
-unfoldable pub enteredBy : Judge → ℕ → ℕ → ℕ → ℕ → Judge
-enteredBy j p child entry number =
-    fresh (blamed (j .least) (tagFaults p (j .row) entry (turnOf j entry) number)) (rowIn entry child) (j .numeric || eqb (rowIn entry child) 6)
+unfoldable pub enteredBy : Judge → ℕ → ℕ → ℕ → ℕ → ℕ → Judge
+enteredBy j p child entry number wrong =
+    fresh (blamed (j .least) (tagFaults p (j .row) (j .last) entry (turnOf j entry) number wrong)) (rowIn entry child) (j .numeric || eqb (rowIn entry child) 6)
 
 -- ── comments, instructions and references ──
 

@@ -17,7 +17,7 @@ nameIn s c = part s (c .name) (c .behind)
 
 -- a start tag's attributes
 abbrev pub attributesIn : List ℕ → Cut → List Attribute
-attributesIn s c = attributes 0 (drop (c .behind) s)
+attributesIn s c = attributes (c .behind) 0 (drop (c .behind) s)
 
 -- what is still to come at the level of a place, up to that level's end
 abbrev pub here : List ℕ → ℕ → Nodes

@@ -38,7 +38,7 @@ both-are a b x y e = by (eqb a x) refl (eqb b y) refl e
 
 -- a start tag that ends right behind its name
 module _ (s : List ℕ) (n : ℕ) (h : n < length s) (e : getD s n 0 ≡ 62) where
-  bare : attributes 0 (drop n s) ≡ []
+  bare : attributes n 0 (drop n s) ≡ []
   unfolding attributes blank
   bare = rw (drop-next s n h, e)
 
@@ -51,7 +51,7 @@ module _ (s : List ℕ) (at n : ℕ) (p : sortAt (drop at s) ≡ 0) (v : Name s 
   unfolding twice refers any
   begin =
       let b = bare s n h e in
-      let none : refers (attributes 0 (drop n s)) ≡ false = ap refers b in
+      let none : refers (attributes n 0 (drop n s)) ≡ false = ap refers b in
       rw none at (tagged s at p v (λ z. omega arith) {e = n + 1} {k = false} (ap twice b) (ends-there s n h e) (omega arith) (omega arith))
 
   module _ {to : ℕ} (w : Span plain s (n + 1) to) (r : 2 ≤ length s - to) (f : (not (eqb (getD s to 0) 60) || not (eqb (getD s (to + 1) 0) 47)) ≡ false) where

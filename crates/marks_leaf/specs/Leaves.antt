@@ -13,7 +13,7 @@ use Rattle.marks_cuts.specs.Marks.{startCut, finishCut, textCut}
 -- the element at a place, whose name ends before n, has no attributes, holds the text that ends before `to`, or nothing, and ends before e
 pub record Plain (s : List ℕ) (at n to e : ℕ) : Type 0 where
   pub start : Stands s at (startCut at n (n + 1) false false)
-  pub bare : attributes 0 (drop n s) ≡ []
+  pub bare : attributes n 0 (drop n s) ≡ []
   pub low : n + 1 ≤ to
   pub text : (to ≡ n + 1 → ⊥) → Stands s (n + 1) (textCut (n + 1) to (spanEnd blank s (n + 1)))
   pub finish : Stands s to (finishCut to (to + 2 + (n - (at + 1))) e)

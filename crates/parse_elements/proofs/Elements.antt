@@ -38,8 +38,8 @@ use Rattle.parse_elements.proofs.Leaves.{counted}
 pub record Ended (s : List ℕ) (left at b : ℕ) (st : State) (t : List ℤ) (n p b′ : ℕ) (last : State) (t₁ : List ℤ) : Type 0 where
   pub fits : Fits last
   pub long : length t₁ ≡ length t
-  pub reads : (st′ : State) {t′ : List ℤ} → stateOf st′ ≡ leaveOf (stateOf st) at (part s (at + 1) n) (attributes 0 (drop n s)) (stateOf last) → Fits st′ → st′ .tally .records ≤ last .tally .records
-      → t′ ≡ writtenOf (stateOf st) at (part s (at + 1) n) (attributes 0 (drop n s)) (stateOf last) t₁ → length t′ ≡ length t₁
+  pub reads : (st′ : State) {t′ : List ℤ} → stateOf st′ ≡ leaveOf (stateOf st) at (part s (at + 1) n) (attributes n 0 (drop n s)) (stateOf last) → Fits st′ → st′ .tally .records ≤ last .tally .records
+      → t′ ≡ writtenOf (stateOf st) at (part s (at + 1) n) (attributes n 0 (drop n s)) (stateOf last) t₁ → length t′ ≡ length t₁
       → ElementReads s left at b (stateOf st) t t′ (record { number = 0; place = p; begun = b′; state = st′ })
 
 -- ── answers ──
@@ -70,7 +70,7 @@ module _ (s : List ℕ) (left at b : ℕ) (st : State) (t : List ℤ) {n : ℕ} 
       refused-tag x w q = refused-here s left at b (stateOf st) t t m at x w q (not-begun s left at b (stateOf st) t (start-tag s at p v z r y) refl f q)
 
       module _ (q : m ≡ 0) where
-        pub short-ended : (inner : State) → tag .short ≡ true → b + 1 ≤ 4096 + m → st .tally .records ≤ b → stateOf inner ≡ enterOf (stateOf st) at (part s (at + 1) n) (attributes 0 (drop n s)) → Fits inner → inner .tally .records ≤ st .tally .records + 1
+        pub short-ended : (inner : State) → tag .short ≡ true → b + 1 ≤ 4096 + m → st .tally .records ≤ b → stateOf inner ≡ enterOf (stateOf st) at (part s (at + 1) n) (attributes n 0 (drop n s)) → Fits inner → inner .tally .records ≤ st .tally .records + 1
             → {p′ b′ : ℕ} {last : State} {t′ : List ℤ} → p′ ≡ tag .end → b′ ≡ b + 1 → last ≡ inner → t′ ≡ t → Ended s left at b st t n p′ b′ last t′
         short-ended inner k l few i fit fi ep eb el et = rw (ep, eb, el, et) (record {
           fits = fit;
@@ -106,7 +106,7 @@ module _ (s : List ℕ) (left at b : ℕ) (st : State) (t : List ℤ) {n : ℕ} 
                   other : j ≡ 6 → Fails s left at b j (in′ .place)
                   other a = rw a (another s left at b (stateOf st) t (start-tag s at p v z r y) refl f q k one-left (c .done h) (other-tag o a) refl (other-name o a))
 
-              pub long-ended : j ≡ 0 → stateOf inner ≡ enterOf (stateOf st) at (part s (at + 1) n) (attributes 0 (drop n s))
+              pub long-ended : j ≡ 0 → stateOf inner ≡ enterOf (stateOf st) at (part s (at + 1) n) (attributes n 0 (drop n s))
                   → {p′ b′ : ℕ} {last : State} {t′ : List ℤ} → p′ ≡ g → b′ ≡ in′ .begun → last ≡ in′ .state → t′ ≡ t₁ → Ended s left at b st t n p′ b′ last t′
               long-ended d i ep eb el et = rw (ep, eb, el, et) (record {
                 fits = c .fits h;

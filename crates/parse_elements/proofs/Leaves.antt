@@ -42,12 +42,12 @@ module _ {s : List ℕ} {left at b : ℕ} (st : State) {n child entry : ℕ} (ec
   name = part s (at + 1) n
 
   abbrev inner : Summed
-  inner = enterOf (stateOf st) at name (attributes 0 (drop n s))
+  inner = enterOf (stateOf st) at name (attributes n 0 (drop n s))
 
   v : Leaves s at n (w .to) (l .end)
   v = record { plain = λ e. w .plain }
 
-  bare : attributes 0 (drop n s) ≡ []
+  bare : attributes n 0 (drop n s) ≡ []
   bare = w .plain .bare
 
   few-inside : recordsOf inner ≡ st .tally .records
@@ -57,7 +57,7 @@ module _ {s : List ℕ} {left at b : ℕ} (st : State) {n child entry : ℕ} (ec
   begin = none-yet s (left - 1) (n + 1) (b + 1) inner t (w .plain .start .cut .high) (omega (arith, w .begun)) (omega (arith, few-inside))
 
   -- its own end tag behind one run of text or nothing
-  finish : (last : Summed) → Passed s (left - 1) (n + 1) (b + 1) inner t (w .to) (b + 1) last t → recordsOf last ≡ st .tally .records → stateOf r ≡ leaveOf (stateOf st) at name (attributes 0 (drop n s)) last
+  finish : (last : Summed) → Passed s (left - 1) (n + 1) (b + 1) inner t (w .to) (b + 1) last t → recordsOf last ≡ st .tally .records → stateOf r ≡ leaveOf (stateOf st) at name (attributes n 0 (drop n s)) last
       → Passed s left at b (stateOf st) t (l .end) (b + 1) (stateOf r) t
   finish last way same-records e = long-element s left at b (stateOf st) t (w .plain .start) refl f (w .begun) refl (omega (arith, w .begun)) way (w .plain .finish) refl (leaf-same v z) refl
       e (rw bare (leaf-unwritten st at name ec (w .worded) last t)) (omega (arith, same-records, counted r)) refl

@@ -20,23 +20,23 @@ module _ (s : List ℕ) (at : ℕ) {n e : ℕ} {tag : Tag} (p : sortAt (drop at 
   -- a tag that is malformed
   pub bad-tag : tag .end ≡ 0 → Stands s at (badCut s at)
   unfolding closeOf
-  bad-tag y = by (twice (attributes 0 (drop n s))) refl
+  bad-tag y = by (twice (attributes n 0 (drop n s))) refl
     where
       closed : _≡_ {A = Option (Bool × List ℕ)} (closeOf s n) none
       closed = r .closes ∙ rw (eq-eqb (tag .end) 0 y)
 
-      by : (t : Bool) → twice (attributes 0 (drop n s)) ≡ t → Stands s at (badCut s at)
+      by : (t : Bool) → twice (attributes n 0 (drop n s)) ≡ t → Stands s at (badCut s at)
       by true f = doubled s at p v z f
       by false f = unended s at p v z (rw f at closed)
 
   -- a tag that is well formed
   pub start-tag : (tag .end ≡ 0 → ⊥) → Stands s at (startCut at n (tag .end) (tag .short) (tag .refers))
   unfolding closeOf
-  start-tag y = by (twice (attributes 0 (drop n s))) refl
+  start-tag y = by (twice (attributes n 0 (drop n s))) refl
     where
       closed : _≡_ {A = Option (Bool × List ℕ)} (closeOf s n) (some (tag .short, drop (tag .end) s))
       closed = r .closes ∙ rw (ne-eqb (tag .end) 0 y)
 
-      by : (t : Bool) → twice (attributes 0 (drop n s)) ≡ t → Stands s at (startCut at n (tag .end) (tag .short) (tag .refers))
+      by : (t : Bool) → twice (attributes n 0 (drop n s)) ≡ t → Stands s at (startCut at n (tag .end) (tag .short) (tag .refers))
       by true f = let q : _≡_ {A = Option (Bool × List ℕ)} none (some (tag .short, drop (tag .end) s)) = rw f at closed in impossible (cc)
       by false f = rw (r .refer y) (tagged s at p v z f (rw f at closed) (r .low y) (r .high))

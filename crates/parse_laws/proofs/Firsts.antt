@@ -70,7 +70,7 @@ unfolding pieces markupFaults
 all-from stop r at k [] h e = from-unless (at + k) 6 stop (outside r && ltb 0 (r .begun)) (omega arith)
 all-from stop r at (suc k) (x ∷ s) h e = from-before (at + suc k) (at + 1 + k) _ (omega arith) (all-from stop r (at + 1) k s (omega arith) (omega arith))
 all-from stop r at zero (x ∷ s) h e =
-    let c = pieceAt (x ∷ s) in
+    let c = pieceAt at (x ∷ s) in
     let k = length s - length (c .1) in
     from-append (at + 0) (pieceFaults r at (c .0)) _ (from-before (at + 0) at _ (omega arith) (piece-from r at (c .0)))
     (from-before (at + 0) (at + 1 + k) _ (omega arith) (all-from stop (next r (c .0)) (at + 1) k s (omega arith) (omega arith)))

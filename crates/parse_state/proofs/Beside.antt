@@ -7,9 +7,10 @@ use native.Mathlib.Omega.{arith}
 use borrow.Author.Needs.{needs}
 use lib.Dec.{eqb}
 use lib.IntN.{ℤ}
-use lib.ListN.{drop}
+use lib.ListN.{length, drop}
 use Rattle.cdi.specs.Faults.{least}
 use Rattle.cdi.specs.Pieces.{Piece, attributes}
+use Rattle.cdi.proofs.Named.{attributes-behind}
 use Rattle.names.specs.Names.{elementNumber}
 use Rattle.rules_judge.specs.Judging as J
 use Rattle.rules_judge.specs.Tables.{entryAt}
@@ -75,36 +76,39 @@ unfolding stateOf leafOf
 leafs st j p child entry said e = beside e refl refl
 
 -- a tag's fault, by either name of the list
-told-faults : (p n : ℕ) → least (faultsAt p n) ≡ least (faultsOf p n)
+told-faults : (p n wrong : ℕ) → least (faultsAt (cond (eqb wrong 0) p wrong) n) ≡ least (faultsOf p n wrong)
 unfolding faultsAt faultsOf
-told-faults p n = refl
+told-faults p n wrong = refl
 
 module _ (s : List ℕ) (st : State) (p behind : ℕ) (n : List ℕ) {child entry : ℕ} {tag : Tag} (r : Reads s behind child tag) (z : tag .end ≡ 0 → ⊥) (ec : child ≡ elementNumber n) (ee : entry ≡ entryAt (st .judge .row) child) where
-  pub fault-small : tag .fault < 32
+  pub fault-small : tag .fault < 128
   fault-small = omega (arith, r .small)
+
+  pub wrong-small : length s ≤ 65535 → tag .wrong ≤ 65535
+  wrong-small h = omega (arith, r .inside)
 
   pub bounded : Bounded child (tag .given)
   bounded = r .bounded z
 
-  pub enters : (j : Judge) (g : Tally) {f : ℕ} → f ≡ tag .fault → judgeOf j ≡ enteredBy (judgeOf (st .judge)) p child entry f → tallyOf g ≡ enterBy (tallyOf (st .tally)) child → g .root ≡ cond (eqb (st .tally .level) 0) p (st .tally .root)
-      → stateOf (record { judge = j; tally = g }) ≡ enterOf (stateOf st) p n (attributes 0 (drop behind s))
+  pub enters : (j : Judge) (g : Tally) {f : ℕ} → p < behind → f ≡ tag .fault → judgeOf j ≡ enteredBy (judgeOf (st .judge)) p child entry f (tag .wrong) → tallyOf g ≡ enterBy (tallyOf (st .tally)) child → g .root ≡ cond (eqb (st .tally .level) 0) p (st .tally .root)
+      → stateOf (record { judge = j; tally = g }) ≡ enterOf (stateOf st) p n (attributes behind 0 (drop behind s))
   unfolding stateOf enterOf tallyOf
-  enters j g {f} q a b u = beside
-      (child-entered (st .judge) p n (attributes 0 (drop behind s)) ec ee j f (r .told z p ∙ told-faults p (tag .fault) ∙ ap (λ (m : ℕ). least (faultsOf p m)) (sym q)) a)
+  enters j g {f} l q a b u = beside
+      (child-entered (st .judge) p n (attributes behind 0 (drop behind s)) ec ee j f (tag .wrong) (attributes-behind (p + 1) behind 0 (drop behind s) (omega arith)) (r .told z p l ∙ told-faults p (tag .fault) (tag .wrong) ∙ ap (λ (m : ℕ). least (faultsOf p m (tag .wrong))) (sym q)) a)
       (b ∙ ap (enterBy (tallyOf (st .tally))) ec ∙ enter-named n (tallyOf (st .tally)))
       u
 
   module _ (inner : State) where
     pub leaves : (j : Judge) (g : Tally) {x : ℕ} → x ≡ tag .exact → judgeOf j ≡ leftBy (judgeOf (st .judge)) p child entry (tag .bare) x (judgeOf (inner .judge)) → tallyOf g ≡ leaveBy (tallyOf (st .tally)) p child (numbersOf (tag .given)) (tallyOf (inner .tally)) → g .root ≡ inner .tally .root
-        → stateOf (record { judge = j; tally = g }) ≡ leaveOf (stateOf st) p n (attributes 0 (drop behind s)) (stateOf inner)
+        → stateOf (record { judge = j; tally = g }) ≡ leaveOf (stateOf st) p n (attributes behind 0 (drop behind s)) (stateOf inner)
     unfolding stateOf leaveOf
     leaves j g q a b u = beside
-        (child-left (st .judge) p n (attributes 0 (drop behind s)) ec ee (inner .judge) j (r .alone z) (q ∙ r .size z) a)
-        (left-by (tallyOf (st .tally)) p child (numbersBy child (attributes 0 (drop behind s))) (tallyOf (inner .tally)) (r .numbers z) b ∙ rw ec (leave-named n (tallyOf (st .tally)) p (attributes 0 (drop behind s)) (tallyOf (inner .tally))))
+        (child-left (st .judge) p n (attributes behind 0 (drop behind s)) ec ee (inner .judge) j (r .alone z) (q ∙ r .size z) a)
+        (left-by (tallyOf (st .tally)) p child (numbersBy child (attributes behind 0 (drop behind s))) (tallyOf (inner .tally)) (r .numbers z) b ∙ rw ec (leave-named n (tallyOf (st .tally)) p (attributes behind 0 (drop behind s)) (tallyOf (inner .tally))))
         u
 
-    pub stores : (t : List ℤ) {u : List ℤ} → u ≡ writtenBy (tallyOf (st .tally)) p child (numbersOf (tag .given)) (tallyOf (inner .tally)) t → u ≡ writtenOf (stateOf st) p n (attributes 0 (drop behind s)) (stateOf inner) t
+    pub stores : (t : List ℤ) {u : List ℤ} → u ≡ writtenBy (tallyOf (st .tally)) p child (numbersOf (tag .given)) (tallyOf (inner .tally)) t → u ≡ writtenOf (stateOf st) p n (attributes behind 0 (drop behind s)) (stateOf inner) t
     unfolding stateOf writtenOf
-    stores t b = stored-by (tallyOf (st .tally)) p child (numbersBy child (attributes 0 (drop behind s))) (tallyOf (inner .tally)) (r .numbers z) t b ∙ rw ec (written-named n (tallyOf (st .tally)) p (attributes 0 (drop behind s)) (tallyOf (inner .tally)) t)
+    stores t b = stored-by (tallyOf (st .tally)) p child (numbersBy child (attributes behind 0 (drop behind s))) (tallyOf (inner .tally)) (r .numbers z) t b ∙ rw ec (written-named n (tallyOf (st .tally)) p (attributes behind 0 (drop behind s)) (tallyOf (inner .tally)) t)
 
-pub ruleset steps = (placed, kept, total-kept, few, fits, left-fits, started, others, leafs, fault-small, bounded, enters, leaves, stores, needs)
+pub ruleset steps = (placed, kept, total-kept, few, fits, left-fits, started, others, leafs, fault-small, wrong-small, bounded, enters, leaves, stores, needs)

@@ -10,8 +10,8 @@ use borrow.Author.Needs.{needs}
 use borrow.Author.Tests.{eq-eqb, ne-eqb, lt-ltb, le-ltb}
 use lib.Dec.{eqb, leb, ltb}
 use lib.ListN.{length}
-use Rattle.cdi.specs.Lists.{isEmpty}
-use Rattle.cdi.specs.Faults.{Fault, fault, unless, before, lesser, least}
+use Rattle.cdi.specs.Lists.{isEmpty, between}
+use Rattle.cdi.specs.Faults.{Fault, fault, unless, rank, before, lesser, least}
 use Rattle.cdi.specs.Pieces.{Attribute, start}
 use Rattle.cdi.specs.Markup.{progress, outside, refers, pieceFaults}
 use Rattle.cdi.proofs.Quiet.{quiet}
@@ -50,14 +50,14 @@ module _ (r : Bool) (left b : ℕ) where
 
 pub ruleset begin-ways = (begin-refers, begin-deep, begin-root, begin-second, begin-child, begin-many, needs)
 
--- at one place the smaller number speaks
-lower : (a b p : ℕ) → leb a b ≡ true → before (fault a p) (fault b p) ≡ true
+-- at one place the number of the smaller rank speaks
+lower : (a b p : ℕ) → leb (rank a) (rank b) ≡ true → before (fault a p) (fault b p) ≡ true
 unfolding before
 lower a b p e = rw (le-ltb p p (omega arith), eq-eqb p p refl, e)
 
 -- the least of up to three faults at one place
 three : (p : ℕ) (x y z : Bool) → least (unless (not x) (fault 5 p) ++ (unless (not y) (fault 6 p) ++ unless z (fault 7 p))) ≡ cond x (some (fault 5 p)) (cond y (some (fault 6 p)) (cond z none (some (fault 7 p))))
-unfolding unless least lesser
+unfolding unless least lesser rank between
 three p true true true = rw (lower 5 6 p refl)
 three p true true false = rw (lower 6 7 p refl, lower 5 6 p refl)
 three p true false true = refl

@@ -19,35 +19,36 @@ use Rattle.pieces_cuts.specs.declared.Kind.the-variants.{Start, Finish, Remark,
 use Rattle.pieces_cuts.specs.declared.Cut.{Cut}
 use Rattle.pieces_cuts.proofs.Finding.{word-room}
 use Rattle.pieces_attributes.proofs.Walking.{skip-to}
+use Rattle.pieces.proofs.Moved.{movedPiece, movedCut, attributes-moved, all-unmoved, piece-moved}
 
 -- ── which piece ──
 
 module _ (s : List ℕ) {r : Cut} {a : Bool} (h : begins (60 ∷ []) s ≡ true) (p : a ≡ begins (ascii "<!DOCTYPE") (drop 0 s)) where
-  pub is-doctype : a ≡ true → Cuts s 0 (unsupported, []) r → Cuts s 0 (pieceAt s) r
+  pub is-doctype : a ≡ true → Cuts s 0 (unsupported, []) r → Cuts s 0 (pieceAt 0 s) r
   unfolding pieceAt
   is-doctype e t = rw (h, ← p, e) t
 
   module _ {b : Bool} (e : a ≡ false) (q : b ≡ begins (ascii "<![CDATA[") (drop 0 s)) where
-    pub is-cdata : b ≡ true → Cuts s 0 (unsupported, []) r → Cuts s 0 (pieceAt s) r
+    pub is-cdata : b ≡ true → Cuts s 0 (unsupported, []) r → Cuts s 0 (pieceAt 0 s) r
     unfolding pieceAt
     is-cdata f t = rw (h, ← p, e, ← q, f) t
 
     module _ {c : Bool} (f : b ≡ false) (u : c ≡ begins (ascii "<!--") (drop 0 s)) where
-      pub is-comment : c ≡ true → Cuts s 0 (orMalformed (comment (drop 4 s))) r → Cuts s 0 (pieceAt s) r
+      pub is-comment : c ≡ true → Cuts s 0 (orMalformed (comment (drop 4 s))) r → Cuts s 0 (pieceAt 0 s) r
       unfolding pieceAt
       is-comment g t = rw (h, ← p, e, ← q, f, ← u, g) t
 
       module _ {d : Bool} (g : c ≡ false) (v : d ≡ begins (ascii "<?") (drop 0 s)) where
-        pub is-instruction : d ≡ true → Cuts s 0 (orMalformed (instruction (drop 2 s))) r → Cuts s 0 (pieceAt s) r
+        pub is-instruction : d ≡ true → Cuts s 0 (orMalformed (instruction (drop 2 s))) r → Cuts s 0 (pieceAt 0 s) r
         unfolding pieceAt
         is-instruction k t = rw (h, ← p, e, ← q, f, ← u, g, ← v, k) t
 
         module _ {l : Bool} (k : d ≡ false) (w : l ≡ begins (ascii "</") (drop 0 s)) where
-          pub is-end-tag : l ≡ true → Cuts s 0 (orMalformed (endTag (drop 2 s))) r → Cuts s 0 (pieceAt s) r
+          pub is-end-tag : l ≡ true → Cuts s 0 (orMalformed (endTag (drop 2 s))) r → Cuts s 0 (pieceAt 0 s) r
           unfolding pieceAt
           is-end-tag m t = rw (h, ← p, e, ← q, f, ← u, g, ← v, k, ← w, m) t
 
-          pub is-start-tag : l ≡ false → Cuts s 0 (orMalformed (startTag (drop 1 s))) r → Cuts s 0 (pieceAt s) r
+          pub is-start-tag : l ≡ false → Cuts s 0 (orMalformed (startTag 1 (drop 1 s))) r → Cuts s 0 (pieceAt 0 s) r
           unfolding pieceAt
           is-start-tag m t = rw (h, ← p, e, ← q, f, ← u, g, ← v, k, ← w, m) t
 
@@ -74,11 +75,11 @@ module _ (s : List ℕ) {a : Bool} (p : a ≡ begins (60 ∷ []) (drop 0 s)) whe
   is-markup e = sym p ∙ e
 
   module _ {b : Bool} (e : a ≡ false) (q : b ≡ begins (38 ∷ []) (drop 0 s)) where
-    pub is-reference : {r : Cut} → b ≡ true → Cuts s 0 (orMalformed (reference (drop 1 s))) r → Cuts s 0 (pieceAt s) r
+    pub is-reference : {r : Cut} → b ≡ true → Cuts s 0 (orMalformed (reference (drop 1 s))) r → Cuts s 0 (pieceAt 0 s) r
     unfolding pieceAt
     is-reference f t = rw (← p, e, ← q, f) t
 
-    pub is-text : {r : Cut} → b ≡ false → Cuts s 0 (orMalformed (run s)) r → Cuts s 0 (pieceAt s) r
+    pub is-text : {r : Cut} → b ≡ false → Cuts s 0 (orMalformed (run s)) r → Cuts s 0 (pieceAt 0 s) r
     unfolding pieceAt
     is-text f t = rw (← p, e, ← q, f) t
 
@@ -98,19 +99,19 @@ pieces-skip at (suc k) [] = refl
 pieces-skip at (suc k) (x ∷ s) = let again : at + 1 + k ≡ at + suc k = omega arith in pieces-skip (at + 1) k s ∙ ap (λ (n : ℕ). pieces n 0 (drop k s)) again
 
 -- the piece at i, where the text from e on follows it
-pub cut-next : (s : List ℕ) (i e : ℕ) → i < length s → i < e → e ≤ length s → pieceAt (drop i s) .1 ≡ drop e s → pieces i 0 (drop i s) ≡ (i, pieceAt (drop i s) .0) ∷ pieces e 0 (drop e s)
+pub cut-next : (s : List ℕ) (i e : ℕ) → i < length s → i < e → e ≤ length s → pieceAt i (drop i s) .1 ≡ drop e s → pieces i 0 (drop i s) ≡ (i, pieceAt i (drop i s) .0) ∷ pieces e 0 (drop e s)
 unfolding pieces
 cut-next s i e h l k q =
     ap (pieces i 0) (drop-next s i h)
-    ∙ ap (λ (r : List (ℕ × Piece)). (i, pieceAt (getD s i 0 ∷ drop (i + 1) s) .0) ∷ r) (
+    ∙ ap (λ (r : List (ℕ × Piece)). (i, pieceAt i (getD s i 0 ∷ drop (i + 1) s) .0) ∷ r) (
     ap (λ (t : List ℕ). pieces (i + 1) (length (drop (i + 1) s) - length t) (drop (i + 1) s)) follows
     ∙ pieces-skip (i + 1) (length (drop (i + 1) s) - length (drop e s)) (drop (i + 1) s)
     ∙ ap (pieces (i + 1 + (length (drop (i + 1) s) - length (drop e s))) 0) (skip-to s i e l k)
     ∙ ap (λ (n : ℕ). pieces n 0 (drop e s)) there)
-    ∙ ap (λ (l : List ℕ). (i, pieceAt l .0) ∷ pieces e 0 (drop e s)) (sym (drop-next s i h))
+    ∙ ap (λ (l : List ℕ). (i, pieceAt i l .0) ∷ pieces e 0 (drop e s)) (sym (drop-next s i h))
   where
-    follows : pieceAt (getD s i 0 ∷ drop (i + 1) s) .1 ≡ drop e s
-    follows = ap (λ (l : List ℕ). pieceAt l .1) (sym (drop-next s i h)) ∙ q
+    follows : pieceAt i (getD s i 0 ∷ drop (i + 1) s) .1 ≡ drop e s
+    follows = ap (λ (l : List ℕ). pieceAt i l .1) (sym (drop-next s i h)) ∙ q
 
     there : i + 1 + (length (drop (i + 1) s) - length (drop e s)) ≡ e
     there = omega (arith, length-drop (i + 1) s, length-drop e s)
@@ -122,9 +123,9 @@ part-shift s i a e = let less : e - a ≡ i + e - (i + a) = omega arith in ap (t
 abbrev moved : ℕ → Cut → Cut
 moved i c = record { kind = c .kind; name = i + c .name; behind = i + c .behind; end = i + c .end; solid = i + c .solid; code = c .code; short = c .short; refers = c .refers }
 
-shifted : (k : Kind) (s : List ℕ) (i : ℕ) (c : Cut) → pieceOf k (drop i s) 0 c ≡ pieceOf k s i (moved i c)
+shifted : (k : Kind) (s : List ℕ) (i : ℕ) (c : Cut) → movedPiece i (pieceOf k (drop i s) 0 c) ≡ pieceOf k s i (moved i c)
 unfolding pieceOf
-shifted Start s i c = rw (part-shift s i (c .name) (c .behind), drop-drop)
+shifted Start s i c = rw (part-shift s i (c .name) (c .behind), ← attributes-moved i (c .behind) 0 (drop (c .behind) (drop i s)), drop-drop)
 shifted Finish s i c = rw (part-shift s i (c .name) (c .behind))
 shifted Remark s i c = refl
 shifted Refer s i c = refl
@@ -132,7 +133,7 @@ shifted Text s i c = rw (part-shift s i 0 (c .end), add-zero)
 shifted Malformed s i c = refl
 shifted Unsupported s i c = refl
 
-move : (s : List ℕ) (i : ℕ) (want : Piece × List ℕ) (c : Cut) → Cuts (drop i s) 0 want c → i < length s → Cuts s i want (moved i c)
+move : (s : List ℕ) (i : ℕ) (want : Piece × List ℕ) (c : Cut) → Cuts (drop i s) 0 want c → i < length s → Cuts s i (movedCut i want) (moved i c)
 move s i want c v h =
     let a = v .name in
     let b = v .behind in
@@ -142,14 +143,15 @@ move s i want c v h =
     let g = v .solid-high in
     let j = v .low in
     let k = v .high in
+    let u = all-unmoved i (want .0) in
     record {
-      is = v .is ∙ rw (shifted (c .kind) s i c, drop-drop);
+      is = ap (movedCut i) (v .is) ∙ rw (shifted (c .kind) s i c, drop-drop);
       name = omega arith;
-      behind = omega arith;
-      solid = omega arith;
-      code = v .code;
-      short = v .short;
-      refers′ = v .refers′;
+      behind = rw (u .name) (omega arith);
+      solid = rw (u .text′) (omega arith);
+      code = v .code ∙ sym (u .code);
+      short = v .short ∙ sym (u .short);
+      refers′ = v .refers′ ∙ sym (u .refers′);
       name-low = omega arith;
       name-high = omega arith;
       solid-low = omega arith;
@@ -158,14 +160,14 @@ move s i want c v h =
       high = omega (arith, length-drop i s);
     }
 
-pub stands : (s : List ℕ) (i : ℕ) {c : Cut} → i < length s → Cuts (take (length s - i) (drop i s)) 0 (pieceAt (take (length s - i) (drop i s))) c
+pub stands : (s : List ℕ) (i : ℕ) {c : Cut} → i < length s → Cuts (take (length s - i) (drop i s)) 0 (pieceAt 0 (take (length s - i) (drop i s))) c
     → Stands s i (record { kind = c .kind; name = i + c .name; behind = i + c .behind; end = i + c .end; solid = i + c .solid; code = c .code; short = c .short; refers = c .refers })
 stands s i {c} h v = record {
   is = cut-next s i (i + c .end) h (m .low) (m .high) (ap (λ w. w .1) (m .is)) ∙ ap (λ w. (i, w .0) ∷ pieces (i + c .end) 0 (drop (i + c .end) s)) (m .is);
   cut = m;
 }
   where
-    m : Cuts s i (pieceAt (drop i s)) (moved i c)
-    m = move s i (pieceAt (drop i s)) c (rw (rest s i) at v) h
+    m : Cuts s i (pieceAt i (drop i s)) (moved i c)
+    m = rw (piece-moved i (drop i s)) (move s i (pieceAt 0 (drop i s)) c (rw (rest s i) at v) h)
 
 pub ruleset standing = (stands, needs)

@@ -1,2 +1,4 @@
 pub mod Cutting
+pub mod Moved
 pub mod Once
+pub mod Tagless

@@ -28,13 +28,13 @@ lower-once b = once
 pub number-of-once : (h : Bool) (s : List ℕ) {r q : ℕ} → r ≡ clip (valueIn h 0 s) → q ≡ clip (valueIn h 0 s) → r ≡ q
 number-of-once h s = once
 
-pub is-named-once : (n s : List ℕ) (at : ℕ) {r q : Bool} → r ≡ any (bears n) (attributes 0 (drop at s)) → q ≡ any (bears n) (attributes 0 (drop at s)) → r ≡ q
+pub is-named-once : (n s : List ℕ) (at : ℕ) {r q : Bool} → r ≡ any (bears n) (attributes at 0 (drop at s)) → q ≡ any (bears n) (attributes at 0 (drop at s)) → r ≡ q
 is-named-once n s at = once
 
-pub is-twice-once : (s : List ℕ) (at : ℕ) {r q : Bool} → r ≡ twice (attributes 0 (drop at s)) → q ≡ twice (attributes 0 (drop at s)) → r ≡ q
+pub is-twice-once : (s : List ℕ) (at : ℕ) {r q : Bool} → r ≡ twice (attributes at 0 (drop at s)) → q ≡ twice (attributes at 0 (drop at s)) → r ≡ q
 is-twice-once s at = once
 
-pub has-reference-once : (s : List ℕ) (at : ℕ) {r q : Bool} → r ≡ refers (attributes 0 (drop at s)) → q ≡ refers (attributes 0 (drop at s)) → r ≡ q
+pub has-reference-once : (s : List ℕ) (at : ℕ) {r q : Bool} → r ≡ refers (attributes at 0 (drop at s)) → q ≡ refers (attributes at 0 (drop at s)) → r ≡ q
 has-reference-once s at = once
 
 abbrev encoding : List ℕ → ℕ → Encoding

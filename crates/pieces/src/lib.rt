@@ -22,7 +22,7 @@ ghost use Rattle.pieces_cuts.specs.Cuts.{Cuts, Stands};
 // What begins with `<`.
 fn markup(s: &[u8]) -> Cut
     requires { ⌜ (0 < length (now s)) × (begins (60 ∷ []) (now s) ≡ true) ⌝ }
-    ensures { λ r. ⌜ Cuts (now (s .entry)) 0 (pieceAt (now (s .entry))) r ⌝ }
+    ensures { λ r. ⌜ Cuts (now (s .entry)) 0 (pieceAt 0 (now (s .entry))) r ⌝ }
 {
     if begins_at(s, 0, b"<!DOCTYPE") {
         return unsupported(s);
@@ -45,7 +45,7 @@ fn markup(s: &[u8]) -> Cut
 // The piece that s begins with.
 fn piece(s: &[u8]) -> Cut
     requires { ⌜ 0 < length (now s) ⌝ }
-    ensures { λ r. ⌜ Cuts (now (s .entry)) 0 (pieceAt (now (s .entry))) r ⌝ }
+    ensures { λ r. ⌜ Cuts (now (s .entry)) 0 (pieceAt 0 (now (s .entry))) r ⌝ }
 {
     if begins_at(s, 0, b"<") {
         return markup(s);

@@ -8,7 +8,7 @@ use native.Mathlib.Omega.{arith}
 use borrow.Author.Tests.{eq-eqb, ne-eqb}
 use lib.ListN.{length, drop, length-take, length-drop}
 use Rattle.scan.proofs.Tests.{eq-or-ne}
-use Rattle.pieces_cuts.specs.Places.{part, attributeOf, attributeFrom, Next}
+use Rattle.pieces_cuts.specs.Places.{part, textsOf, attributeFrom, Next}
 use Rattle.pieces_cuts.specs.declared.places.Attribute.{Attribute as Places}
 use Rattle.pieces_cuts.proofs.Once.{same-rest, apart, both}
 
@@ -35,7 +35,7 @@ module _ {s : List ℕ} {at : ℕ} {r : Places} (v : Next s at r) where
   next-none : r .end ≡ at → attributeFrom (drop at s) ≡ none
   next-none e = v .is ∙ rw (eq-eqb (r .end) at e)
 
-  next-some : (r .end ≡ at → ⊥) → attributeFrom (drop at s) ≡ some (attributeOf s r, drop (r .end) s)
+  next-some : (r .end ≡ at → ⊥) → attributeFrom (drop at s) ≡ some (textsOf s r, drop (r .end) s)
   next-some e = v .is ∙ rw (ne-eqb (r .end) at e)
 
 pub next-attribute-once : {s : List ℕ} {at : ℕ} {r q : Places} → Next s at r → Next s at q → r ≡ q
@@ -63,8 +63,8 @@ next-attribute-once {s} {at} {r} {q} v w = ⊎-elim
         let end : r .end ≡ q .end = same-rest s (r .end) (q .end) (o .high) (p .high) (ap (λ x. x .1) e) in
         let name : r .name ≡ q .name = v .first a ∙ sym (w .first b) in
         let close : r .close ≡ q .close = omega (arith, v .last a, w .last b) in
-        let names : length (part s (r .name) (r .behind)) ≡ length (part s (q .name) (q .behind)) = ap (λ x. length (x .0 .name)) e in
-        let values : length (part s (r .value) (r .close)) ≡ length (part s (q .value) (q .close)) = ap (λ x. length (x .0 .value)) e in
+        let names : length (part s (r .name) (r .behind)) ≡ length (part s (q .name) (q .behind)) = ap (λ x. length (x .0 .0)) e in
+        let values : length (part s (r .value) (r .close)) ≡ length (part s (q .value) (q .close)) = ap (λ x. length (x .0 .1)) e in
         let behind : r .behind ≡ q .behind = part-end s (r .name) (q .name) (r .behind) (q .behind) name (o .behind) (p .behind) (omega (arith, o .value, o .close, o .end, o .high)) (omega (arith, p .value, p .close, p .end, p .high)) names in
         let value : r .value ≡ q .value = part-start s (r .value) (q .value) (r .close) (q .close) close (o .close) (p .close) (omega (arith, o .end, o .high)) (omega (arith, p .end, p .high)) values in
         places-path r q name behind value close end

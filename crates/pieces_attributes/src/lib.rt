@@ -106,7 +106,7 @@ pub fn next_attribute(s: &[u8], at: usize) -> Attribute
 // Has one of the attributes from this place on that name?
 pub fn is_named(s: &[u8], at: usize, name: &[u8]) -> bool
     requires { ⌜ at ≤ length (now s) ⌝ }
-    ensures { λ r. ⌜ r ≡ any (bears (now (name .entry))) (attributes 0 (drop at (now (s .entry)))) ⌝ }
+    ensures { λ r. ⌜ r ≡ any (bears (now (name .entry))) (attributes at 0 (drop at (now (s .entry)))) ⌝ }
 {
     let mut i = at;
     loop {
@@ -127,7 +127,7 @@ pub fn is_named(s: &[u8], at: usize, name: &[u8]) -> bool
 // Has one of the attributes from this place on a `&` in its value?
 pub fn has_reference(s: &[u8], at: usize) -> bool
     requires { ⌜ at ≤ length (now s) ⌝ }
-    ensures { λ r. ⌜ r ≡ refers (attributes 0 (drop at (now (s .entry)))) ⌝ }
+    ensures { λ r. ⌜ r ≡ refers (attributes at 0 (drop at (now (s .entry)))) ⌝ }
 {
     let mut i = at;
     loop {

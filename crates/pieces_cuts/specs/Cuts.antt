@@ -19,7 +19,7 @@ plainCut k e c = record { kind = k; name = 0; behind = 0; end = e; solid = 0; co
 
 -- the piece that a cut stands for
 unfoldable pub pieceOf : Kind → List ℕ → ℕ → Cut → Piece
-pieceOf Start s at r = start (part s (r .name) (r .behind)) (attributes 0 (drop (r .behind) s)) (r .short)
+pieceOf Start s at r = start (part s (r .name) (r .behind)) (attributes (r .behind) 0 (drop (r .behind) s)) (r .short)
 pieceOf Finish s at r = finish (part s (r .name) (r .behind))
 pieceOf Remark s at r = remark
 pieceOf Refer s at r = refer (r .code)
@@ -106,8 +106,8 @@ pub record Cuts (s : List ℕ) (at : ℕ) (want : Piece × List ℕ) (r : Cut) :
 -- the piece that stands at a place of the content: the cutting goes on behind it
 pub record Stands (s : List ℕ) (at : ℕ) (r : Cut) : Type 0 where
   pub is : pieces at 0 (drop at s) ≡ (at, pieceOf (r .kind) s at r) ∷ pieces (r .end) 0 (drop (r .end) s)
-  pub cut : Cuts s at (pieceAt (drop at s)) r
+  pub cut : Cuts s at (pieceAt at (drop at s)) r
 
 -- a start tag that closes as it says, unless a name stands twice in it: its name ends before n, and it ends before e
 unfoldable pub tagOf : List ℕ → ℕ → ℕ → Bool → Option (Piece × List ℕ)
-tagOf s n e k = cond (twice (attributes 0 (drop n s))) none (some (start (part s 1 n) (attributes 0 (drop n s)) k, drop e s))
+tagOf s n e k = cond (twice (attributes n 0 (drop n s))) none (some (start (part s 1 n) (attributes n 0 (drop n s)) k, drop e s))

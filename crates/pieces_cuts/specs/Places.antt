@@ -35,7 +35,11 @@ pub record Quoted (s : List ℕ) (at r : ℕ) : Type 0 where
 
 -- the attribute that stands in these places
 abbrev pub attributeOf : List ℕ → Places → Attribute
-attributeOf s r = record { name = part s (r .name) (r .behind); value = part s (r .value) (r .close) }
+attributeOf s r = record { place = r .name; name = part s (r .name) (r .behind); value = part s (r .value) (r .close) }
+
+-- its name and its value
+abbrev pub textsOf : List ℕ → Places → List ℕ × List ℕ
+textsOf s r = (part s (r .name) (r .behind), part s (r .value) (r .close))
 
 -- the places stand in order
 pub record Ordered (s : List ℕ) (at : ℕ) (r : Places) : Type 0 where
@@ -48,18 +52,18 @@ pub record Ordered (s : List ℕ) (at : ℕ) (r : Places) : Type 0 where
 
 -- the attribute whose name stands at a place; its end is that place where none does
 pub record Here (s : List ℕ) (at : ℕ) (r : Places) : Type 0 where
-  pub is : attributeAt (drop at s) ≡ cond (eqb (r .end) at) none (some (attributeOf s r, drop (r .end) s))
+  pub is : attributeAt (drop at s) ≡ cond (eqb (r .end) at) none (some (textsOf s r, drop (r .end) s))
   pub ordered : Ordered s at r
   pub first : r .name ≡ at
   pub last : (r .end ≡ at → ⊥) → r .close + 1 ≡ r .end
 
 -- an attribute with the blanks that must stand before it, and what follows it
-unfoldable pub attributeFrom : List ℕ → Option (Attribute × List ℕ)
+unfoldable pub attributeFrom : List ℕ → Option ((List ℕ × List ℕ) × List ℕ)
 attributeFrom s = cond (blank (getD s 0 0)) (attributeAt (after blank s)) none
 
 -- the next attribute of a tag from a place on; its end is that place where there is none
 pub record Next (s : List ℕ) (at : ℕ) (r : Places) : Type 0 where
-  pub is : attributeFrom (drop at s) ≡ cond (eqb (r .end) at) none (some (attributeOf s r, drop (r .end) s))
+  pub is : attributeFrom (drop at s) ≡ cond (eqb (r .end) at) none (some (textsOf s r, drop (r .end) s))
   pub ordered : Ordered s at r
   pub first : (r .end ≡ at → ⊥) → r .name ≡ spanEnd blank s at
   pub last : (r .end ≡ at → ⊥) → r .close + 1 ≡ r .end
@@ -71,6 +75,6 @@ closing t = cond (begins (ascii ">") t) (some (false, drop 1 t)) (cond (begins (
 -- r stands behind the last attribute from a place on
 pub record Closes (s : List ℕ) (at r : ℕ) : Type 0 where
   pub is : tagEnd 0 (drop at s) ≡ closing (after blank (drop r s))
-  pub all : attributes 0 (drop r s) ≡ []
+  pub all : attributes r 0 (drop r s) ≡ []
   pub low : at ≤ r
   pub high : r ≤ length s

@@ -22,15 +22,15 @@ use Rattle.pieces_listed.specs.Tables.{Twins, Holds}
 pub record Again (s names : List ℕ) (n i : ℕ) : Type 0 where
   pub index : ℕ
   pub low : index < n
-  pub there : any (bears (named s (getD names index 0))) (attributes 0 (drop i s)) ≡ true
+  pub there : any (bears (named s (getD names index 0))) (attributes i 0 (drop i s)) ≡ true
 
 -- where a name twice may be: twice in the table, in the table and from i on, or twice from i on
 abbrev pub Where : List ℕ → List ℕ → ℕ → ℕ → Type 0
-Where s names n i = Twins s names n ⊎ (Again s names n i ⊎ (twice (attributes 0 (drop i s)) ≡ true))
+Where s names n i = Twins s names n ⊎ (Again s names n i ⊎ (twice (attributes i 0 (drop i s)) ≡ true))
 
 -- the table has n names of the attributes before i
 pub record Filling (s : List ℕ) (at : ℕ) (names : List ℕ) (n i : ℕ) : Type 0 where
-  pub back : twice (attributes 0 (drop at s)) ≡ true → Where s names n i
+  pub back : twice (attributes at 0 (drop at s)) ≡ true → Where s names n i
   pub high : i ≤ length s
 
 pub fill-start : (s : List ℕ) (at : ℕ) (names : List ℕ) → at ≤ length s → Filling s at names 0 at
@@ -68,7 +68,7 @@ module _ {s : List ℕ} {at : ℕ} {names : List ℕ} {n i : ℕ} {a : Places} (
   unfolding twice any
   filled e = record { twins = λ h t. ⊎-elim (λ x. x) (λ x. ⊎-elim (λ y. nothing (y .index) (y .there)) (λ y. impossible (let z : false ≡ true = rw (no-more v e) at y in cc)) x) (w .back t) }
     where
-      nothing : (j : ℕ) → any (bears (named s (getD names j 0))) (attributes 0 (drop i s)) ≡ true → Twins s names n
+      nothing : (j : ℕ) → any (bears (named s (getD names j 0))) (attributes i 0 (drop i s)) ≡ true → Twins s names n
       nothing j q = impossible (let z : false ≡ true = rw (no-more v e) at q in cc)
 
   module _ (e : a .end ≡ i → ⊥) (x : ℕ) {r : Bool} (h : n < length names) (k : Shows r (Numbers x (a .name) (a .behind))) (t : r ≡ true) where
@@ -81,12 +81,12 @@ module _ {s : List ℕ} {at : ℕ} {names : List ℕ} {n i : ℕ} {a : Places} (
     more (inr (inl y)) = either (same (named s (getD names (y .index) 0)) (part s (a .name) (a .behind))) refl (rw (one-more v e) at (y .there))
       where
         either : (t : Bool) → same (named s (getD names (y .index) 0)) (part s (a .name) (a .behind)) ≡ t
-            → (t || any (bears (named s (getD names (y .index) 0))) (attributes 0 (drop (a .end) s))) ≡ true → Where s (set names n x) (n + 1) (a .end)
+            → (t || any (bears (named s (getD names (y .index) 0))) (attributes (a .end) 0 (drop (a .end) s))) ≡ true → Where s (set names n x) (n + 1) (a .end)
         either true k m = inl (new-twins s names n x h (y .index) (y .low) (same-equal _ _ k ∙ sym this))
         either false k m = inr (inl (record { index = y .index; low = omega (arith, y .low); there = rw (kept s names n x h (y .index) (y .low)) m }))
-    more (inr (inr t)) = either (any (bears (part s (a .name) (a .behind))) (attributes 0 (drop (a .end) s))) refl (rw (one-more v e) at t)
+    more (inr (inr t)) = either (any (bears (part s (a .name) (a .behind))) (attributes (a .end) 0 (drop (a .end) s))) refl (rw (one-more v e) at t)
       where
-        either : (t : Bool) → any (bears (part s (a .name) (a .behind))) (attributes 0 (drop (a .end) s)) ≡ t → (t || twice (attributes 0 (drop (a .end) s))) ≡ true
+        either : (t : Bool) → any (bears (part s (a .name) (a .behind))) (attributes (a .end) 0 (drop (a .end) s)) ≡ t → (t || twice (attributes (a .end) 0 (drop (a .end) s))) ≡ true
             → Where s (set names n x) (n + 1) (a .end)
         either true k m = inr (inl (record { index = n; low = omega arith; there = rw (getD-set-same names n x 0 h, this) k }))
         either false k m = inr (inr m)

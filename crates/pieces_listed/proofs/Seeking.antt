@@ -15,7 +15,7 @@ use Rattle.pieces_attributes.proofs.Walking.{one-more, less as nearer}
 
 -- a name that stands twice from i on stands twice in the whole
 pub record Seeking (s : List ℕ) (at i : ℕ) : Type 0 where
-  pub back : twice (attributes 0 (drop i s)) ≡ true → twice (attributes 0 (drop at s)) ≡ true
+  pub back : twice (attributes i 0 (drop i s)) ≡ true → twice (attributes at 0 (drop at s)) ≡ true
   pub high : i ≤ length s
 
 pub seek : (s : List ℕ) (at : ℕ) → at ≤ length s → Seeking s at at
@@ -29,11 +29,11 @@ module _ {s : List ℕ} {at i : ℕ} {a : Places} (w : Seeking s at i) (v : Next
   pub seek-on : Seeking s at (a .end)
   unfolding twice
   seek-on = record {
-    back = λ q. w .back (rw (one-more v e) (or-second (any (bears (part s (a .name) (a .behind))) (attributes 0 (drop (a .end) s))) (twice (attributes 0 (drop (a .end) s))) q));
+    back = λ q. w .back (rw (one-more v e) (or-second (any (bears (part s (a .name) (a .behind))) (attributes (a .end) 0 (drop (a .end) s))) (twice (attributes (a .end) 0 (drop (a .end) s))) q));
     high = v .ordered .high;
   }
 
-  pub sought : {r : Bool} → r ≡ any (bears (part s (a .name) (a .behind))) (attributes 0 (drop (a .end) s)) → Shows r (twice (attributes 0 (drop at s)) ≡ true)
+  pub sought : {r : Bool} → r ≡ any (bears (part s (a .name) (a .behind))) (attributes (a .end) 0 (drop (a .end) s)) → Shows r (twice (attributes at 0 (drop at s)) ≡ true)
   unfolding twice
   sought k = record { is = λ t. w .back (rw (one-more v e, ← k, t)) }
 

@@ -15,7 +15,7 @@ ghost use Rattle.pieces_listed.specs.Tables.{Holds};
 // Does a name stand twice among the attributes from this place on? Each is compared with all that follow it.
 pub fn is_plainly_twice(s: &[u8], at: usize) -> bool
     requires { ⌜ at ≤ length (now s) ⌝ }
-    ensures { λ r. ⌜ r ≡ twice (attributes 0 (drop at (now (s .entry)))) ⌝ }
+    ensures { λ r. ⌜ r ≡ twice (attributes at 0 (drop at (now (s .entry)))) ⌝ }
 {
     let mut i = at;
     loop {
@@ -64,7 +64,7 @@ pub fn fill(s: &[u8], at: usize, names: &mut [usize]) -> usize
 // Is there an attribute whose name begins at `place`, and another of the same name behind it?
 pub fn is_again(s: &[u8], at: usize, place: usize) -> bool
     requires { ⌜ at ≤ length (now s) ⌝ }
-    ensures { λ r. ⌜ Shows r (twice (attributes 0 (drop at (now (s .entry)))) ≡ true) ⌝ }
+    ensures { λ r. ⌜ Shows r (twice (attributes at 0 (drop at (now (s .entry)))) ≡ true) ⌝ }
 {
     let mut i = at;
     loop {

@@ -23,12 +23,12 @@ use Rattle.pieces_cuts.proofs.Finding.{room-one, room-two}
 use Rattle.pieces_cuts.proofs.Making.{nothing}
 use Rattle.pieces_marks.proofs.Reading.{part-length}
 
-module _ (s : List ℕ) (n e : ℕ) (k : Bool) {d : Bool} (w : d ≡ twice (attributes 0 (drop n s))) where
+module _ (s : List ℕ) (n e : ℕ) (k : Bool) {d : Bool} (w : d ≡ twice (attributes n 0 (drop n s))) where
   pub name-twice : d ≡ true → tagOf s n e k ≡ none
   unfolding tagOf
   name-twice f = rw (← w, f)
 
-  pub a-tag : {x : Bool} → d ≡ false → x ≡ refers (attributes 0 (drop n s)) → 1 ≤ n → n ≤ e → 1 ≤ e → e ≤ length s
+  pub a-tag : {x : Bool} → d ≡ false → x ≡ refers (attributes n 0 (drop n s)) → 1 ≤ n → n ≤ e → 1 ≤ e → e ≤ length s
       → Cuts s 0 (orMalformed (tagOf s n e k)) (record { kind = Start; name = 1; behind = n; end = e; solid = 0; code = 0; short = k; refers = x })
   unfolding tagOf orMalformed pieceOf before nameOf textOf codeOf shortOf refersOf while
   a-tag f q l m o h = rw (← w, f) (record {
@@ -52,31 +52,34 @@ pub bare-tag : (s : List ℕ) (n e : ℕ) (k : Bool) {l : ℕ} → Closes s n l 
     → Cuts s 0 (orMalformed (tagOf s n e k)) (record { kind = Start; name = 1; behind = n; end = e; solid = 0; code = 0; short = k; refers = false })
 unfolding twice refers any
 bare-tag s n e k {l} v f =
-    let z : attributes 0 (drop n s) ≡ [] = rw (← f) (v .all) in
+    let z : attributes n 0 (drop n s) ≡ [] = rw (← f) (v .all) in
     a-tag s n e k {d = false} (sym (ap twice z)) refl (sym (ap refers z))
 
 pub ruleset a-start-tag = (nothing, name-twice, a-tag, bare-tag, needs)
 
 module _ (s : List ℕ) {n : ℕ} (v : Name s 1 n) where
-  pub untagged : n ≡ 1 → startTag (drop 1 s) ≡ none
+  pub untagged : n ≡ 1 → startTag 1 (drop 1 s) ≡ none
   unfolding startTag
   untagged e = rw (v .is, eq-eqb _ _ e)
 
   module _ {l t : ℕ} {a : Bool} (h : n ≡ 1 → ⊥) (c : Closes s n l) (b : Span (ofClass Blank) s l t) (w : a ≡ begins (62 ∷ []) (drop t s)) where
-    ends : startTag (drop 1 s) ≡ (closing (drop t s) >>= λ e. cond (twice (attributes 0 (drop n s))) none (some (start (part s 1 n) (attributes 0 (drop n s)) (e .0), e .1)))
-    unfolding startTag ofClass
-    ends = rw (v .is, ne-eqb _ _ h, c .is, span-rest b)
+    behind : 1 + length (part s 1 n) ≡ n
+    behind = omega (arith, v .low, part-length s 1 n (v .low) (v .high))
 
-    pub long-tag : {r : Cut} → a ≡ true → Cuts s 0 (orMalformed (tagOf s n (t + 1) false)) r → Cuts s 0 (orMalformed (startTag (drop 1 s))) r
+    ends : startTag 1 (drop 1 s) ≡ (closing (drop t s) >>= λ e. cond (twice (attributes n 0 (drop n s))) none (some (start (part s 1 n) (attributes n 0 (drop n s)) (e .0), e .1)))
+    unfolding startTag ofClass
+    ends = rw (v .is, ne-eqb _ _ h, c .is, span-rest b, behind)
+
+    pub long-tag : {r : Cut} → a ≡ true → Cuts s 0 (orMalformed (tagOf s n (t + 1) false)) r → Cuts s 0 (orMalformed (startTag 1 (drop 1 s))) r
     unfolding tagOf closing
     long-tag f k = rw (ends, ← w, f, drop-drop) k
 
     module _ {d : Bool} (f : a ≡ false) (u : d ≡ begins (47 ∷ 62 ∷ []) (drop t s)) where
-      pub short-tag : {r : Cut} → d ≡ true → Cuts s 0 (orMalformed (tagOf s n (t + 2) true)) r → Cuts s 0 (orMalformed (startTag (drop 1 s))) r
+      pub short-tag : {r : Cut} → d ≡ true → Cuts s 0 (orMalformed (tagOf s n (t + 2) true)) r → Cuts s 0 (orMalformed (startTag 1 (drop 1 s))) r
       unfolding tagOf closing
       short-tag g k = rw (ends, ← w, f, ← u, g, drop-drop) k
 
-      pub open-tag : d ≡ false → startTag (drop 1 s) ≡ none
+      pub open-tag : d ≡ false → startTag 1 (drop 1 s) ≡ none
       unfolding closing
       open-tag g = rw (ends, ← w, f, ← u, g)
 

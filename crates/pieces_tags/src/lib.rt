@@ -72,7 +72,7 @@ fn is_wide(at: usize, last: usize) -> bool
 // tells how many names need room. Nothing rests on that.
 fn is_twice(s: &[u8], at: usize, last: usize) -> bool
     requires { ⌜ (at ≤ last) × (last ≤ length (now s)) ⌝ }
-    ensures { λ r. ⌜ r ≡ twice (attributes 0 (drop at (now (s .entry)))) ⌝ }
+    ensures { λ r. ⌜ r ≡ twice (attributes at 0 (drop at (now (s .entry)))) ⌝ }
 {
     if last - at < 320 {
         return is_twice_among_few(s, at);
@@ -141,7 +141,7 @@ fn tag(s: &[u8], behind: usize, last: usize, end: usize, short: bool) -> Cut
 // A start tag: s begins with its `<`.
 pub fn start_tag(s: &[u8]) -> Cut
     requires { ⌜ 1 ≤ length (now s) ⌝ }
-    ensures { λ r. ⌜ Cuts (now (s .entry)) 0 (orMalformed (startTag (drop 1 (now (s .entry))))) r ⌝ }
+    ensures { λ r. ⌜ Cuts (now (s .entry)) 0 (orMalformed (startTag 1 (drop 1 (now (s .entry))))) r ⌝ }
 {
     let behind = name_end(s, 1);
     if behind == 1 {

@@ -3,6 +3,7 @@ use mathlib.Core.Path.{_≡_, ap, _∙_}
 use Prim.Native.Nat.{ℕ, _/_, _%_, _≤_, _<_}
 use borrow.Author.Needs.{needs}
 use borrow.Author.Tests.{le-leb, lt-leb, eq-eqb, ne-eqb}
+use Rattle.keys.specs.Keys.{numberOf}
 use Rattle.keys.proofs.Keying.{no-fault, a-fault}
 use Rattle.rules_judge.specs.Judging.{toLeast}
 use Rattle.rules_judge.specs.declared.Least.{Least}
@@ -31,9 +32,9 @@ module _ (r : Planned) where
   unfolding addressedBy leavesOf
   leaves-never p e = rw (eq-eqb p 18446744073709551615 e)
 
-  pub faulty : (k : ℕ) → (k ≡ 18446744073709551615 → ⊥) → Refused (k % 32) (k / 32) ≡ ruledBy (leastIn k) r
+  pub faulty : (k : ℕ) {n : ℕ} → (k ≡ 18446744073709551615 → ⊥) → n ≡ numberOf (k % 128) → Refused n (k / 128) ≡ ruledBy (leastIn k) r
   unfolding ruledBy leastIn toLeast
-  faulty k e = rw (a-fault k e)
+  faulty k e f = rw (a-fault k e, f)
 
   pub faultless : (k : ℕ) → k ≡ 18446744073709551615 → r ≡ ruledBy (leastIn k) r
   unfolding ruledBy leastIn toLeast

@@ -1,6 +1,7 @@
 // Stages 8 to 12, in their order: each refuses or hands on what the next one says.
 
 use keys::NOTHING;
+use keys::number_of;
 use tallies_state::NEVER;
 use terms::MOST_VARIABLES;
 ghost use mathlib.Core.Path.{_≡_};
@@ -48,8 +49,8 @@ fn ruled(least: usize, next: Planned) -> Planned
         return next;
     }
     Planned::Refused {
-        number: least % 32,
-        place: least / 32,
+        number: number_of(least % 128),
+        place: least / 128,
     }
 }
 

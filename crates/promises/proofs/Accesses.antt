@@ -39,7 +39,7 @@ use Rattle.access.specs.Told.{startFor}
 use Rattle.access.proofs.Once.{write-once, read-once}
 use Rattle.promises.proofs.Steps.{described-number}
 use Rattle.promises.proofs.Terms as why
-use Rattle.promises.proofs.Terms.{AccessCause, variableAt}
+use Rattle.promises.proofs.Terms.{TextNumber, AccessCause, variableAt}
 
 -- ── tables ──
 
@@ -196,7 +196,7 @@ module _ {m p : ℕ} where
       by (accepted u) q e = given-value (valueIn s (ownBytes w (s .variable))) refl _ e
       by (refused x) q e = let z : x ≡ fault m p = cc in caused q z
 
-  access-number : {b : List ℕ} {t : List ℤ} {n : ℕ} {own : Setting → Type 0} (hi : ℕ) → 21 ≤ hi → ((s : Setting) → own s → (22 ≤ m) × (m ≤ hi)) → AccessCause b t n own m p → ((1 ≤ m) × (m ≤ 12)) ⊎ ((20 ≤ m) × (m ≤ hi))
+  access-number : {b : List ℕ} {t : List ℤ} {n : ℕ} {own : Setting → Type 0} (hi : ℕ) → 21 ≤ hi → ((s : Setting) → own s → (22 ≤ m) × (m ≤ hi)) → AccessCause b t n own m p → TextNumber m ⊎ ((20 ≤ m) × (m ≤ hi))
   access-number {b} hi l f (why.text e) = inl (described-number b (fault m p) e)
   access-number hi l f (why.table e k q s) = inr (omega arith, omega arith)
   access-number hi l f (why.number e k j q s) = inr (omega arith, omega arith)
@@ -221,7 +221,7 @@ module _ (b : List ℕ) (t : List ℤ) (n : ℕ) (w : Window) (v : Value) (s : W
     pub write-refused-exactly : s ≡ write.Refused m p ↔ AccessCause b t n (λ x. firstCause (writeCauses w v x) ≡ refused (fault m p)) m p
     write-refused-exactly = (write-cause, write-refused)
 
-    pub write-number : s ≡ write.Refused m p → ((1 ≤ m) × (m ≤ 12)) ⊎ ((20 ≤ m) × (m ≤ 27))
+    pub write-number : s ≡ write.Refused m p → TextNumber m ⊎ ((20 ≤ m) × (m ≤ 27))
     write-number e = access-number 27 (omega arith) (λ x o. write-own w v x o) (write-cause e)
 
   write-passed : s ≡ write.Accepted → (x : Setting) × (settingOf b t n ≡ accepted x) × Passed w v x
@@ -247,7 +247,7 @@ module _ (b : List ℕ) (t : List ℤ) (n space first : ℕ) (bytes : List ℕ) 
   pub read-refused-exactly : q ≡ reading.Refused m p ↔ AccessCause b t n (λ x. readFrom (windowOf space first bytes) x ≡ refused (fault m p)) m p
   read-refused-exactly = (read-cause, read-refused)
 
-  pub read-number : q ≡ reading.Refused m p → ((1 ≤ m) × (m ≤ 12)) ⊎ ((20 ≤ m) × (m ≤ 28))
+  pub read-number : q ≡ reading.Refused m p → TextNumber m ⊎ ((20 ≤ m) × (m ≤ 28))
   read-number e = access-number 28 (omega arith) (λ x o. read-own (windowOf space first bytes) x o) (read-cause e)
 
 -- ── locating in any table ──

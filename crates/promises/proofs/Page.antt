@@ -12,7 +12,7 @@ use lib.ListN.{length, take, drop, getD}
 use Rattle.promises.proofs.Terms.{Fault, fault, before, least, accepted, refused, content, Found, walk, recordsOf, tableOf, isPlan, segmentsOf, locating, leaving, described, planned, tableAfter}
 use Rattle.promises.proofs.Terms.{Value, Setting, settingOf, firstCause, writeCauses, readFrom, stored, written, windowAfter, read, NoZero, Passed, SixtyFour, answerOf, Planned, told, Told, toldOf, Located}
 use Rattle.promises.proofs.Terms.{batch, listed, wantedOf, Wanted, windowOf, writtenOf, Written, readingOf, ReadAt, Reading, startFor}
-use Rattle.promises.proofs.Terms.{Among, ofMarkup, ofElements, Counted, Cause, AccessCause, variableAt, numbersAt, echo}
+use Rattle.promises.proofs.Terms.{MarkupNumber, RuleNumber, TextNumber, Among, ofMarkup, ofElements, Counted, Cause, AccessCause, variableAt, numbersAt, echo}
 use Rattle.plan_stages.specs.declared.Planned.the-variants.{Accepted, Refused}
 use Rattle.locate.specs.declared.Located.the-variants.{NotAPlan, NoVariable}
 use Rattle.access_writing.specs.declared.Written.the-variants as write
@@ -31,8 +31,8 @@ module _ (b : List ℕ) (t : List ℤ) {r : Planned} {u : List ℤ} (answer : an
   pub plan-refused : {m p : ℕ} → r ≡ Refused m p ↔ Cause b t m p
   plan-refused = steps.refused-exactly b t answer
 
-  -- A refusal has a number from 1 to 13.
-  pub plan-number : {m p : ℕ} → r ≡ Refused m p → (1 ≤ m) × (m ≤ 13)
+  -- A refusal has one of the numbers from 1 to 7, from 81 to 88, and from 9 to 13.
+  pub plan-number : {m p : ℕ} → r ≡ Refused m p → TextNumber m ⊎ (m ≡ 13)
   plan-number e = steps.refused-number b t answer e
 
   -- 13 comes exactly where stages 1 to 12 have no fault and 8 times the records exceed the table's length.
@@ -43,15 +43,15 @@ module _ (b : List ℕ) (t : List ℤ) {r : Planned} {u : List ℤ} (answer : an
   pub plan-refusal-keeps : {m p : ℕ} → r ≡ Refused m p → u ≡ t
   plan-refusal-keeps e = planning.refusal-keeps b t answer e after
 
--- Stages 1 to 12 have numbers up to 12: the markup 4 to 7, the rules of the elements 8 to 10, the addresses 11.
+-- Stages 1 to 12 have their numbers: the markup 4 to 7, the rules of the elements 81 to 88, 9 and 10, the addresses 11. 8 is none of them.
 pub stage-numbers : (b c : List ℕ) (f : Fault)
-    → (described b ≡ refused f → (1 ≤ f .number) × (f .number ≤ 12))
-    × (least (ofMarkup c) ≡ some f → (4 ≤ f .number) × (f .number ≤ 7))
-    × (least (ofElements c) ≡ some f → (8 ≤ f .number) × (f .number ≤ 10))
+    → (described b ≡ refused f → TextNumber (f .number))
+    × (least (ofMarkup c) ≡ some f → MarkupNumber (f .number))
+    × (least (ofElements c) ≡ some f → RuleNumber (f .number))
     × (leaving 0 (told c) ≡ some f → f .number ≡ 11)
 stage-numbers = steps.stage-numbers
 
--- The least fault is one of the list and comes before every other: by place, then by number.
+-- The least fault is one of the list and comes before every other: by place, then by the rank of its number.
 pub least-is-first : (fs : List Fault) (f : Fault) → least fs ≡ some f → Among f fs × ((g : Fault) → Among g fs → before f g ≡ true)
 least-is-first fs f e = (steps.least-among fs f e, λ g a. steps.least-before fs f g e a)
 
@@ -69,7 +69,7 @@ module _ (b : List ℕ) (t : List ℤ) (n space first : ℕ) (bytes : List ℕ) 
     pub write-refused : s ≡ write.Refused m p ↔ AccessCause b t n (λ x. firstCause (writeCauses (windowOf space first bytes) v x) ≡ refused (fault m p)) m p
     write-refused = accesses.write-refused-exactly b t n (windowOf space first bytes) v s said
 
-    pub write-number : s ≡ write.Refused m p → ((1 ≤ m) × (m ≤ 12)) ⊎ ((20 ≤ m) × (m ≤ 27))
+    pub write-number : s ≡ write.Refused m p → TextNumber m ⊎ ((20 ≤ m) × (m ≤ 27))
     write-number e = accesses.write-number b t n (windowOf space first bytes) v s said e
 
     -- A refused write leaves the window as it was.
@@ -81,7 +81,7 @@ module _ (b : List ℕ) (t : List ℤ) (n space first : ℕ) (bytes : List ℕ) 
     pub read-refused : q ≡ reading.Refused m p ↔ AccessCause b t n (λ x. readFrom (windowOf space first bytes) x ≡ refused (fault m p)) m p
     read-refused = accesses.read-refused-exactly b t n space first bytes q is at
 
-    pub read-number : q ≡ reading.Refused m p → ((1 ≤ m) × (m ≤ 12)) ⊎ ((20 ≤ m) × (m ≤ 28))
+    pub read-number : q ≡ reading.Refused m p → TextNumber m ⊎ ((20 ≤ m) × (m ≤ 28))
     read-number e = accesses.read-number b t n space first bytes q is at e
 
 -- Two texts that agree up to and including a first zero, wherever it stands: planning, writing and reading answer the same and leave the same.

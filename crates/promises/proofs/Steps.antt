@@ -37,7 +37,7 @@ use Rattle.access_reading.specs.Told.{readingOf, ReadAt}
 use Rattle.access_reading.specs.declared.Reading.{Reading}
 use Rattle.access.proofs.Once.{write-once, read-once}
 use Rattle.promises.proofs.Terms as why
-use Rattle.promises.proofs.Terms.{Among, ofMarkup, ofElements, rootOf, Opened, Formed, Ruled, Kept, Counted, Cause}
+use Rattle.promises.proofs.Terms.{MarkupNumber, RuleNumber, TextNumber, Among, ofMarkup, ofElements, rootOf, Opened, Formed, Ruled, Kept, Counted, Cause}
 use Rattle.promises.proofs.Numbers.{From, nothing, then, of-markup, of-elements, of-address}
 
 -- ── the least fault ──
@@ -80,16 +80,16 @@ least-before (h ∷ fs) f g e a = by (least fs) refl e a (λ x q a. least-before
         pick false p e (inl z) = let y : f ≡ x = cc in rw (y, z) (order.total h x p)
         pick false p e (inr a) = let y : f ≡ x = cc in rw y (others x q a)
 
-numbered : {lo hi : ℕ} (fs : List Fault) (f : Fault) → From lo hi fs → Among f fs → (lo ≤ f .number) × (f .number ≤ hi)
+numbered : {P : ℕ → Type 0} (fs : List Fault) (f : Fault) → From P fs → Among f fs → P (f .number)
 unfolding Among
 numbered [] f nothing a = absurd a
-numbered (g ∷ fs) f (then l h x) (inl e) = rw e (l, h)
-numbered (g ∷ fs) f (then l h x) (inr a) = numbered fs f x a
+numbered (g ∷ fs) f (then h x) (inl e) = rw e h
+numbered (g ∷ fs) f (then h x) (inr a) = numbered fs f x a
 
-markup-number : (c : List ℕ) (f : Fault) → least (ofMarkup c) ≡ some f → (4 ≤ f .number) × (f .number ≤ 7)
+markup-number : (c : List ℕ) (f : Fault) → least (ofMarkup c) ≡ some f → MarkupNumber (f .number)
 markup-number c f e = numbered (ofMarkup c) f (of-markup (length c) (progress [] 0) (cut c)) (least-among (ofMarkup c) f e)
 
-rule-number : (c : List ℕ) (f : Fault) → least (ofElements c) ≡ some f → (8 ≤ f .number) × (f .number ≤ 10)
+rule-number : (c : List ℕ) (f : Fault) → least (ofElements c) ≡ some f → RuleNumber (f .number)
 rule-number c f e = numbered (ofElements c) f (of-elements (tree (cut c))) (least-among (ofElements c) f e)
 
 address-number : (c : List ℕ) (f : Fault) → leaving 0 (told c) ≡ some f → f .number ≡ 11
@@ -258,22 +258,22 @@ module _ (b : List ℕ) where
 
 module _ {b : List ℕ} {t : List ℤ} {m p : ℕ} where
   -- each stage has its numbers
-  pub cause-number : Cause b t m p → (1 ≤ m) × (m ≤ 13)
-  cause-number (why.endless e q s) = (omega arith, omega arith)
-  cause-number (why.character e f q) = (omega arith, omega arith)
-  cause-number (why.line e f g q s) = (omega arith, omega arith)
-  cause-number (why.markup {c = c} o e) = let n = markup-number c (fault m p) e in (omega arith, omega arith)
-  cause-number (why.rule {c = c} o e) = let n = rule-number c (fault m p) e in (omega arith, omega arith)
-  cause-number (why.address {c = c} o e) = let n = address-number c (fault m p) e in (omega arith, omega arith)
-  cause-number (why.count o l q s) = (omega arith, omega arith)
-  cause-number (why.room k l q s) = (omega arith, omega arith)
+  pub cause-number : Cause b t m p → TextNumber m ⊎ (m ≡ 13)
+  cause-number (why.endless e q s) = inl (inl (omega arith, omega arith))
+  cause-number (why.character e f q) = inl (inl (omega arith, omega arith))
+  cause-number (why.line e f g q s) = inl (inl (omega arith, omega arith))
+  cause-number (why.markup {c = c} o e) = let n = markup-number c (fault m p) e in inl (inl (omega (arith, n .0), n .1))
+  cause-number (why.rule {c = c} o e) = inl (inr (inl (rule-number c (fault m p) e)))
+  cause-number (why.address {c = c} o e) = let n = address-number c (fault m p) e in inl (inr (inr (omega arith, omega arith)))
+  cause-number (why.count o l q s) = inl (inr (inr (omega arith, omega arith)))
+  cause-number (why.room k l q s) = inr q
 
   pub thirteen : Cause b t m p → m ≡ 13 → (c : List ℕ) × Counted b c × (length t < 8 * recordsOf (told c)) × (p ≡ 0)
   thirteen (why.endless e q s) h = absurd (omega arith)
   thirteen (why.character e f q) h = absurd (omega arith)
   thirteen (why.line e f g q s) h = absurd (omega arith)
   thirteen (why.markup {c = c} o e) h = let n = markup-number c (fault m p) e in absurd (omega arith)
-  thirteen (why.rule {c = c} o e) h = let n = rule-number c (fault m p) e in absurd (omega arith)
+  thirteen (why.rule {c = c} o e) h = ⊎-elim (λ (n : (81 ≤ m) × (m ≤ 88)). absurd (omega (arith, n .0))) (λ (n : (9 ≤ m) × (m ≤ 10)). absurd (omega (arith, n .1))) (rule-number c (fault m p) e)
   thirteen (why.address {c = c} o e) h = let n = address-number c (fault m p) e in absurd (omega arith)
   thirteen (why.count o l q s) h = absurd (omega arith)
   thirteen (why.room {c = c} k l q s) h = (c, k, l, s)
@@ -307,7 +307,7 @@ module _ (b : List ℕ) (t : List ℤ) {r : Planned} (answer : answerOf r ≡ pl
   pub refused-exactly : {m p : ℕ} → r ≡ Refused m p ↔ Cause b t m p
   refused-exactly = (refused-cause, cause-answer)
 
-  pub refused-number : {m p : ℕ} → r ≡ Refused m p → (1 ≤ m) × (m ≤ 13)
+  pub refused-number : {m p : ℕ} → r ≡ Refused m p → TextNumber m ⊎ (m ≡ 13)
   refused-number e = cause-number (refused-cause e)
 
   pub short-exactly : {p : ℕ} → r ≡ Refused 13 p ↔ ((c : List ℕ) × Counted b c × (length t < 8 * recordsOf (told c)) × (p ≡ 0))
@@ -323,19 +323,20 @@ module _ (b : List ℕ) (t : List ℤ) {r : Planned} (answer : answerOf r ≡ pl
   pub accepted-exactly : {n v : ℕ} → r ≡ Accepted n v ↔ Told b t n v
   accepted-exactly = ((λ e. accepted-faultless b t answer e), told-answer)
 
--- stages 1 to 12 have numbers from 1 to 12
-pub described-number : (b : List ℕ) (f : Fault) → described b ≡ refused f → (1 ≤ f .number) × (f .number ≤ 12)
-described-number b f e =
-    let k : Cause b [] (f .number) (f .place) = cause-of b [] (refuses b [] f e) in
-    let n = cause-number k in
-    (n .0, ⊎-elim (λ l. last k (omega arith)) (λ l. l) (lt-or-le 12 (f .number)))
+-- stages 1 to 12 have their numbers
+pub described-number : (b : List ℕ) (f : Fault) → described b ≡ refused f → TextNumber (f .number)
+described-number b f e = by (cause-number k)
   where
-    last : Cause b [] (f .number) (f .place) → f .number ≡ 13 → f .number ≤ 12
-    last k h = let z = thirteen k h in let y = counted-described b {c = z .0} (z .1) in impossible (cc)
+    k : Cause b [] (f .number) (f .place)
+    k = cause-of b [] (refuses b [] f e)
+
+    by : TextNumber (f .number) ⊎ (f .number ≡ 13) → TextNumber (f .number)
+    by (inl n) = n
+    by (inr h) = let z = thirteen k h in let y = counted-described b {c = z .0} (z .1) in impossible (cc)
 
 pub stage-numbers : (b c : List ℕ) (f : Fault)
-    → (described b ≡ refused f → (1 ≤ f .number) × (f .number ≤ 12))
-    × (least (ofMarkup c) ≡ some f → (4 ≤ f .number) × (f .number ≤ 7))
-    × (least (ofElements c) ≡ some f → (8 ≤ f .number) × (f .number ≤ 10))
+    → (described b ≡ refused f → TextNumber (f .number))
+    × (least (ofMarkup c) ≡ some f → MarkupNumber (f .number))
+    × (least (ofElements c) ≡ some f → RuleNumber (f .number))
     × (leaving 0 (told c) ≡ some f → f .number ≡ 11)
 stage-numbers b c f = ((λ e. described-number b f e), (λ e. markup-number c f e), (λ e. rule-number c f e), (λ e. address-number c f e))

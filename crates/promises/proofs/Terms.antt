@@ -43,14 +43,24 @@ pub use Rattle.access_reading.specs.Told.{readingOf, ReadAt}
 pub use Rattle.access_reading.specs.declared.Reading.{Reading}
 pub use Rattle.access.specs.Told.{startFor}
 
--- ── "Stages: 1; 2; 3; 4 to 7; 8 to 10; 11; 12; 13. The earliest stage speaks." ──
+-- ── "Stages: 1; 2; 3; 4 to 7; 8 to 10; 11; 12; 13. The earliest stage speaks." "81 to 88 in that order replace 8 in its stage" ──
+
+-- the numbers of stages 4 to 7, of those where 8 was, and of all from 1 to 12
+abbrev pub MarkupNumber : ℕ → Type 0
+MarkupNumber n = (4 ≤ n) × (n ≤ 7)
+
+abbrev pub RuleNumber : ℕ → Type 0
+RuleNumber n = ((81 ≤ n) × (n ≤ 88)) ⊎ ((9 ≤ n) × (n ≤ 10))
+
+abbrev pub TextNumber : ℕ → Type 0
+TextNumber n = ((1 ≤ n) × (n ≤ 7)) ⊎ (RuleNumber n ⊎ ((11 ≤ n) × (n ≤ 12)))
 
 -- f is one of these faults
 unfoldable pub Among : Fault → List Fault → Type 0
 Among f [] = ⊥
 Among f (g ∷ gs) = (f ≡ g) ⊎ Among f gs
 
--- the faults of stages 4 to 7, and of stages 8 to 10
+-- the faults of stages 4 to 7, and of stages 81 to 88, 9 and 10
 abbrev pub ofMarkup : List ℕ → List Fault
 ofMarkup c = markupFaults (length c) (progress [] 0) (cut c)
 
@@ -69,7 +79,7 @@ Opened b c = (content b ≡ some c) × (badCharacter c ≡ none) × (begins firs
 abbrev pub Formed : List ℕ → List ℕ → Type 0
 Formed b c = Opened b c × (ofMarkup c ≡ [])
 
--- nor have 8 to 10
+-- nor have 81 to 88, 9 and 10
 abbrev pub Ruled : List ℕ → List ℕ → Type 0
 Ruled b c = Formed b c × (ofElements c ≡ [])
 
@@ -91,7 +101,7 @@ pub data Cause (b : List ℕ) (t : List ℤ) (m p : ℕ) : Type 0 where
   line : {c : List ℕ} → content b ≡ some c → badCharacter c ≡ none → begins firstLine c ≡ false → m ≡ 3 → p ≡ 0 → Cause b t m p
   -- 4 to 7: the least fault of the markup
   markup : {c : List ℕ} → Opened b c → least (ofMarkup c) ≡ some (fault m p) → Cause b t m p
-  -- 8 to 10: the least fault against the table of elements
+  -- 81 to 88, 9 and 10: the least fault against the table of elements
   rule : {c : List ℕ} → Formed b c → least (ofElements c) ≡ some (fault m p) → Cause b t m p
   -- 11: the first segment whose addresses leave 0 to 2^32
   address : {c : List ℕ} → Ruled b c → leaving 0 (told c) ≡ some (fault m p) → Cause b t m p

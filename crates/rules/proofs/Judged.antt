@@ -9,7 +9,7 @@ use Rattle.cdi.specs.Faults.{Fault, lesser, least}
 use Rattle.cdi.specs.Pieces.{Attribute, Piece}
 use Rattle.cdi.specs.Tree.{Nodes, end, element, other}
 use Rattle.cdi.specs.Rows.{Row, rowOf}
-use Rattle.cdi.specs.Rules.{Before, nothingBefore, behind, entryOf, childFaults, strayFaults, attributeFaults, missingFaults, numberFaults, intFaults, ownFaults, isInt, isKnown, faultsIn, elementFaults, offTable}
+use Rattle.cdi.specs.Rules.{Before, nothingBefore, behind, entryOf, childFaults, strayFaults, attributeFaults, missingFaults, numberFaults, intFaults, ownFaults, isInt, isKnown, faultsIn, elementFaults, unknownElement}
 use Rattle.cdi.proofs.Least.{lesser-assoc, lesser-comm, lesser-none, least-append}
 use Rattle.rules_judge.specs.declared.Judge.{Judge}
 use Rattle.rules_judge.specs.declared.Least.{Least}
@@ -68,7 +68,7 @@ module _ {k : ℕ} {inInt : Bool} {j : Judge} (judged : eqb k 24 ≡ false) (r :
   other-least p c = rw (not-foreign judged r) (rw (r .row))
 
   module _ (p : ℕ) (n : List ℕ) (s : List Attribute) where
-    enter-unknown : entryOf (rowAt k) n ≡ none → enterOf j p n s ≡ fresh (blamed (j .least) (offTable p ∷ [])) 24 inInt
+    enter-unknown : entryOf (rowAt k) n ≡ none → enterOf j p n s ≡ fresh (blamed (j .least) (unknownElement p ∷ [])) 24 inInt
     unfolding enterOf
     enter-unknown q = rw (not-foreign judged r, looked-up judged r n, q, r .numeric)
 
@@ -105,7 +105,7 @@ module _ {k : ℕ} {inInt : Bool} {j : Judge} (judged : eqb k 24 ≡ false) (r :
           (rw (least-append (missing p n (judgeNodes (entered e) kids)), missing-least l (inInt || isInt n) p n kids m)
           (sym (least-append (missingFaults p (rowOf n .children) kids) (numberFaults inInt p n kids ++ intFaults p n s kids))))
 
-      unknown-in : (b : Before) → entryOf (rowAt k) n ≡ none → childIn (rowAt k) inInt b p n s kids ≡ offTable p ∷ []
+      unknown-in : (b : Before) → entryOf (rowAt k) n ≡ none → childIn (rowAt k) inInt b p n s kids ≡ unknownElement p ∷ []
       unfolding childIn childFaults isKnown
       unknown-in b q = rw q
 
@@ -123,8 +123,8 @@ module _ {k : ℕ} {inInt : Bool} {j : Judge} (judged : eqb k 24 ≡ false) (r :
           → asFault (leaveOf j p n s (judgeNodes (enterOf j p n s) kids) .least) ≡ lesser (asFault (j .least)) (least (childIn (rowAt k) inInt b p n s kids))
       unfolding entered
       child-least b h l none q =
-          rw (leave-unknown (judgeNodes (enterOf j p n s) kids) q, enter-unknown q, unjudged (blamed (j .least) (offTable p ∷ [])) inInt kids, unknown-in b q)
-          (blamed-least (j .least) (offTable p ∷ []))
+          rw (leave-unknown (judgeNodes (enterOf j p n s) kids) q, enter-unknown q, unjudged (blamed (j .least) (unknownElement p ∷ [])) inInt kids, unknown-in b q)
+          (blamed-least (j .least) (unknownElement p ∷ []))
       child-least b h l (some e) q =
           let m = numbered k n e q in
           rw (leave-known (judgeNodes (enterOf j p n s) kids) e q, enter-known judged r p n s e q, blamed-least, content-least e m, entered-least e h m, known-in b e l q)

@@ -10,7 +10,7 @@ use Rattle.cdi.specs.Faults.{Fault, unless, lesser, least}
 use Rattle.cdi.specs.Pieces.{Attribute, Piece}
 use Rattle.cdi.specs.Tree.{Nodes, end, element, other}
 use Rattle.cdi.specs.Rows.{rowOf, rows-page}
-use Rattle.cdi.specs.Rules.{offTable, entryFrom, entryOf, hasChild, missingFaults}
+use Rattle.cdi.specs.Rules.{missingChild, entryFrom, entryOf, hasChild, missingFaults}
 use Rattle.cdi.proofs.Quiet.{same-equal, same-self}
 use Rattle.rules_judge.specs.declared.Judge.{Judge}
 use Rattle.rules_judge.specs.declared.Least.{Least}
@@ -43,7 +43,7 @@ relation-entry : (n : List ℕ) → entryOf (rowAt (elementNumber relation)) n �
 unfolding lists-page rows-page judging-page entryOf entryFrom
 relation-entry n = refl
 
-relation-missing : (p : ℕ) (kids : Nodes) → missingFaults p (rowOf relation .children) kids ≡ unless (hasChild property kids) (offTable p) ++ (unless (hasChild value kids) (offTable p) ++ [])
+relation-missing : (p : ℕ) (kids : Nodes) → missingFaults p (rowOf relation .children) kids ≡ unless (hasChild property kids) (missingChild p) ++ (unless (hasChild value kids) (missingChild p) ++ [])
 unfolding lists-page rows-page missingFaults
 relation-missing p kids = refl
 
@@ -107,7 +107,7 @@ relation-least : (l : Least) (inInt : Bool) (p : ℕ) (kids : Nodes)
 unfolding missing fresh
 relation-least l inInt p kids =
     let h = has-after {inInt = inInt} {j = fresh l (elementNumber relation) inInt} kids (record { row = refl; numeric = refl }) in
-    rw (same-self relation, relation-missing, h .one, h .two) (both-needed (offTable p) (hasChild property kids) (hasChild value kids))
+    rw (same-self relation, relation-missing, h .one, h .two) (both-needed (missingChild p) (hasChild property kids) (hasChild value kids))
 
 -- The least fault of missing children is known after an element's content.
 pub missing-least : (l : Least) (inInt : Bool) (p : ℕ) (n : List ℕ) (kids : Nodes) → Numbered n

@@ -6,12 +6,12 @@ use mathlib.Core.Option.{none, some}
 use Prim.Native.Nat.{ℕ, _≤_, max}
 use native.Mathlib.Omega.{arith}
 use native.Mathlib.Decide.{decLe}
-use borrow.Author.Tests.{eqb-true, eqb-false, ltb-false, eq-eqb, ne-eqb}
+use borrow.Author.Tests.{eqb-true, eqb-false, ltb-false, le-ltb, eq-eqb, ne-eqb}
 use lib.Dec.{eqb, ltb}
-use Rattle.cdi.specs.Lists.{any, isEmpty}
-use Rattle.cdi.specs.Faults.{Fault, unless, before, lesser, least}
+use Rattle.cdi.specs.Lists.{any, isEmpty, between}
+use Rattle.cdi.specs.Faults.{Fault, unless, rank, before, lesser, least}
 use Rattle.cdi.specs.Rows.{Row}
-use Rattle.cdi.specs.Rules.{Before, nothingBefore, entryOf, childFaults, behind, offTable}
+use Rattle.cdi.specs.Rules.{Before, nothingBefore, entryOf, childFaults, behind, outOfOrder, tooOften}
 use Rattle.cdi.proofs.Quiet.{impossible}
 use Rattle.rules_judge.specs.Judging.{entryFaults}
 
@@ -76,20 +76,22 @@ lesser-same f = by (before f f)
     by true = refl
     by false = refl
 
-first-speaks : (f : Fault) (u : Bool) → least (f ∷ unless u f) ≡ some f
-unfolding least unless lesser
-first-speaks f true = refl
-first-speaks f false = lesser-same f
+-- the order's fault comes before the count's
+order-speaks : (p : ℕ) (u : Bool) → least (outOfOrder p ∷ unless u (tooOften p)) ≡ some (outOfOrder p)
+unfolding least unless lesser before rank between
+order-speaks p true = refl
+order-speaks p false = rw (le-ltb p p (omega arith), eq-eqb p p refl)
 
--- two tests with one fault, where the second is the same unless the first has failed
-joined-alike : (f : Fault) (t u v : Bool) → (t ≡ false → u ≡ v) → Alike (unless (not t) f ++ unless u f) (unless (not t) f ++ unless v f)
+-- both tests, where the second is the same unless the first has failed
+joined-alike : (p : ℕ) (t u v : Bool) → (t ≡ false → u ≡ v)
+    → Alike (unless (not t) (outOfOrder p) ++ unless u (tooOften p)) (unless (not t) (outOfOrder p) ++ unless v (tooOften p))
 unfolding unless isEmpty
-joined-alike f true u v h = record { least = first-speaks f u ∙ sym (first-speaks f v); empty = refl }
-joined-alike f false u v h = rw (h refl) (record { least = refl; empty = refl })
+joined-alike p true u v h = record { least = order-speaks p u ∙ sym (order-speaks p v); empty = refl }
+joined-alike p false u v h = rw (h refl) (record { least = refl; empty = refl })
 
 -- A child that the row knows has the same faults by the last entry as by all entries.
 pub child-alike : {last : ℕ} {b : Before} (r : Row) (p : ℕ) (n : List ℕ) (e : ℕ × Bool) → entryOf r n ≡ some e → 1 ≤ e .0 → Like last b
     → Alike (childFaults r b p n) (entryFaults last p e)
 unfolding childFaults entryFaults
 child-alike {last} {b} r p n e q h l =
-    rw (q, l .same) (joined-alike (offTable p) (ltb (e .0) last) _ _ (λ z. rw (seen-last (e .0) l h (ltb-false _ _ z))))
+    rw (q, l .same) (joined-alike p (ltb (e .0) last) _ _ (λ z. rw (seen-last (e .0) l h (ltb-false _ _ z))))

@@ -18,7 +18,7 @@ use Rattle.names.specs.Names.{elementNumber}
 use Rattle.rules_judge.specs.declared.Least.{Least}
 use Rattle.rules_judge.specs.declared.Judge.{Judge}
 use Rattle.rules_judge.specs.Judging.{blamed, rowAt, isForeign, fresh, entryFaults, enterOf, missing, numberBlame, boundBlame, intBlame, boundSound, passed, leaveOf}
-use Rattle.rules_judge.specs.Tables.{entryAt, manyAt, inTurn, sizeIn, intSize}
+use Rattle.rules_judge.specs.Tables.{entryAt, manyAt, inTurn, turnNumber, sizeIn, intSize}
 use Rattle.rules_judge.specs.Parts.{isLimit, missingBy, numberBy, intBy, limitSound, leftOf}
 use Rattle.rules_judge.proofs.Blaming.{blamed-in-turn}
 use Rattle.rules.proofs.Named.{numbered}
@@ -27,14 +27,14 @@ use Rattle.rules_judge.proofs.Sized.{int-size, size-is}
 
 -- ── order and count ──
 
-turn-faults : (last p : ℕ) (e : ℕ × Bool) → entryFaults last p e ≡ unless (inTurn last (e .0) (e .1)) (fault 8 p)
-unfolding entryFaults inTurn unless
+turn-faults : (last p : ℕ) (e : ℕ × Bool) → entryFaults last p e ≡ unless (inTurn last (e .0) (e .1)) (fault (turnNumber last (e .0)) p)
+unfolding entryFaults inTurn turnNumber unless
 turn-faults last p e = ⊎-elim
     (λ h. rw (lt-ltb (e .0) last h, ne-eqb (e .0) last (λ z. omega arith)) (by (e .1)))
     (λ h. rw (le-ltb (e .0) last h))
     (lt-or-le (e .0) last)
   where
-    by : (t : Bool) → fault 8 p ∷ unless (t || true) (fault 8 p) ≡ fault 8 p ∷ []
+    by : (t : Bool) → fault 82 p ∷ unless (t || true) (fault 83 p) ≡ fault 82 p ∷ []
     by true = refl
     by false = refl
 
@@ -58,12 +58,12 @@ module _ (j : Judge) (p : ℕ) (n : List ℕ) (s : List Attribute) {r : Judge} w
   foreign-entered e f = f ∙ rw (eq-eqb _ _ e)
 
   module _ {c e : ℕ} (f : j .row ≡ 24 → ⊥) (ec : c ≡ elementNumber n) (ee : e ≡ entryAt (j .row) c) where
-    pub unknown-entered : {l : Least} → e ≡ 0 → l ≡ blamed (j .least) (fault 8 p ∷ []) → r ≡ fresh l 24 (j .numeric) → r ≡ enterOf j p n s
+    pub unknown-entered : {l : Least} → e ≡ 0 → l ≡ blamed (j .least) (fault 81 p ∷ []) → r ≡ fresh l 24 (j .numeric) → r ≡ enterOf j p n s
     unfolding enterOf isForeign
     unknown-entered z g h = h ∙ rw (ne-eqb _ _ f, none-here (j .row) n ec ee z, g)
 
     pub known-entered : {t i : Bool} {a b : Least} → (e ≡ 0 → ⊥) → t ≡ inTurn (j .last) e (eqb e (manyAt (j .row)))
-        → a ≡ blamed (j .least) (unless t (fault 8 p)) → b ≡ blamed a (attributeFaults p (rowAt c) s) → i ≡ (j .numeric || eqb c 6) → r ≡ fresh b c i
+        → a ≡ blamed (j .least) (unless t (fault (turnNumber (j .last) e) p)) → b ≡ blamed a (attributeFaults p (rowAt c) s) → i ≡ (j .numeric || eqb c 6) → r ≡ fresh b c i
         → r ≡ enterOf j p n s
     unfolding enterOf isForeign
     known-entered {t} {i} {a} {b} z et ea eb ei er = er ∙ sym (rw (ne-eqb _ _ f, some-here (j .row) n ec ee z, is-int n, ← ec, ← ei) (ap (λ (l : Least). fresh l c i) (sym least-is)))
@@ -72,7 +72,7 @@ module _ (j : Judge) (p : ℕ) (n : List ℕ) (s : List Attribute) {r : Judge} w
         row-is = ap rowAt ec ∙ numbered (j .row) n _ (some-here (j .row) n ec ee z) .row
 
         least-is : b ≡ blamed (j .least) (entryFaults (j .last) p (e, eqb e (manyAt (j .row))) ++ attributeFaults p (rowOf n) s)
-        least-is = blamed-in-turn (j .least) (unless t (fault 8 p)) (attributeFaults p (rowAt c) s) ea eb ∙ rw (turn-faults, et, row-is)
+        least-is = blamed-in-turn (j .least) (unless t (fault (turnNumber (j .last) e) p)) (attributeFaults p (rowAt c) s) ea eb ∙ rw (turn-faults, et, row-is)
 
 -- ── leaving a child ──
 
@@ -99,7 +99,7 @@ module _ (p : ℕ) (n : List ℕ) where
   unfolding boundSound limitSound isLimit
   sound-by j s e i = rw (is-min n, is-max n, turn-faults, quiet (inTurn (j .last) (e .0) (e .1)))
     where
-      quiet : (t : Bool) → isEmpty (unless t (fault 8 p)) ≡ t
+      quiet : (t : Bool) → isEmpty (unless t (fault (turnNumber (j .last) (e .0)) p)) ≡ t
       quiet true = unfold isEmpty unless in refl
       quiet false = unfold isEmpty unless in refl
 

@@ -14,7 +14,7 @@ use Rattle.cdi.specs.Pieces.{Attribute, Piece, start, finish, remark, refer, te
 use Rattle.cdi.specs.Tree.{Nodes, end, element, other}
 use Rattle.cdi.specs.Numbers.{trimmed, number, bounded}
 use Rattle.cdi.specs.Rows.{Row, rowOf, documentRow, intSizes}
-use Rattle.cdi.specs.Rules.{offTable, noNumber, outOfRange, attributeFaults, entryOf, strayFaults, numberNames, storable, largest, sizeText, sizeOf, isInt}
+use Rattle.cdi.specs.Rules.{unknownElement, outOfOrder, tooOften, missingChild, noNumber, outOfRange, attributeFaults, entryOf, strayFaults, numberNames, storable, largest, sizeText, sizeOf, isInt}
 use Rattle.cdi.specs.Values.{withSign}
 use Rattle.names.specs.Names.{elementNames, numberAmong, elementNumber}
 use Rattle.terms.specs.declared.Whole.{Whole}
@@ -109,13 +109,13 @@ fresh l row numeric =
 
 -- a child's order and count, by its entry
 unfoldable pub entryFaults : ℕ → ℕ → ℕ × Bool → List F.Fault
-entryFaults last p e = unless (not (ltb (e .0) last)) (offTable p) ++ unless (e .1 || not (eqb (e .0) last)) (offTable p)
+entryFaults last p e = unless (not (ltb (e .0) last)) (outOfOrder p) ++ unless (e .1 || not (eqb (e .0) last)) (tooOften p)
 
 unfoldable pub enterOf : Judge → ℕ → List ℕ → List Attribute → Judge
 enterOf j p n s =
     cond (isForeign j) (fresh (j .least) 24 (j .numeric))
     (given (entryOf (rowAt (j .row)) n)
-    (fresh (blamed (j .least) (offTable p ∷ [])) 24 (j .numeric))
+    (fresh (blamed (j .least) (unknownElement p ∷ [])) 24 (j .numeric))
     (λ e. fresh (blamed (j .least) (entryFaults (j .last) p e ++ attributeFaults p (rowOf n) s)) (elementNumber n) (j .numeric || isInt n)))
 
 -- ── any other piece ──
@@ -139,7 +139,7 @@ otherOf j p c =
 -- ── leaving a child: `i` is what is known of its content ──
 
 unfoldable pub missing : ℕ → List ℕ → Judge → List F.Fault
-missing p n i = unless (not (same n (ascii "relation")) || (i .one && i .two)) (offTable p)
+missing p n i = unless (not (same n (ascii "relation")) || (i .one && i .two)) (missingChild p)
 
 unfoldable pub numberBlame : Judge → ℕ → List ℕ → Judge → List F.Fault
 numberBlame j p n i = cond (j .numeric && among n numberNames) (saidFaults p (i .said)) []

@@ -6,7 +6,7 @@ use lib.Dec.{eqb, leb}
 use Rattle.cdi.specs.Lists.{isEmpty}
 use Rattle.cdi.specs.Faults.{Fault, unless}
 use Rattle.cdi.specs.Pieces.{Attribute}
-use Rattle.cdi.specs.Rules.{offTable}
+use Rattle.cdi.specs.Rules.{missingChild}
 use Rattle.rules_judge.specs.declared.Least.{Least}
 use Rattle.rules_judge.specs.declared.Said.{Said}
 use Rattle.rules_judge.specs.declared.Said.the-variants.{No}
@@ -21,7 +21,7 @@ unfoldable pub isLimit : ℕ → Bool
 isLimit k = eqb k 19 || eqb k 20
 
 unfoldable pub missingBy : ℕ → ℕ → Bool → Bool → List Fault
-missingBy p k one two = unless (not (eqb k 11) || (one && two)) (offTable p)
+missingBy p k one two = unless (not (eqb k 11) || (one && two)) (missingChild p)
 
 unfoldable pub numberBy : ℕ → Bool → ℕ → Said → List Fault
 numberBy p numeric k said = cond (numeric && isNumeric k) (saidFaults p said) []

@@ -1,6 +1,6 @@
 -- A start tag, by each way through the code.
 use mathlib.Core.Path.{_≡_, refl, sym, ap, _∙_}
-use mathlib.Core.List.{List, [], _∷_}
+use mathlib.Core.List.{List, [], _∷_, append-nil}
 use mathlib.Core.Bool.{Bool, true, false, cond, not, _&&_, _||_}
 use mathlib.Core.Option.{Option, none, some}
 use mathlib.Core.Logic.{⊎-elim}
@@ -12,25 +12,28 @@ use lib.Dec.{eqb}
 use lib.ListN.{length, drop, getD, drop-of-length-le, List·getD-eq-default}
 use lib.Seq.{drop-drop}
 use Rattle.cdi.specs.Lists.{any, all, same, begins, isEmpty, after}
-use Rattle.cdi.specs.Faults.{least}
+use Rattle.cdi.specs.Faults.{Fault, lesser, least}
 use Rattle.cdi.specs.Pieces.{Attribute, blank, attributes, tagEnd, bears, twice}
 use Rattle.cdi.specs.Markup.{refers}
-use Rattle.cdi.specs.Rules.{attributeFaults}
+use Rattle.cdi.specs.Rules.{rulesFaults, namesFaults, attributeFaults}
+use Rattle.cdi.proofs.Least.{least-append}
+use Rattle.cdi.proofs.Named.{attributes-behind, names-silent}
 use Rattle.cdi.proofs.Quiet.{impossible, same-equal}
 use Rattle.scan.specs.Spans.{Span}
 use Rattle.scan.proofs.Along.{drop-next}
 use Rattle.scan.proofs.Spans.{span-rest}
-use Rattle.scan.proofs.Tests.{lt-or-le}
+use Rattle.scan.proofs.Tests.{lt-or-le, eq-or-ne}
 use Rattle.names.specs.Names.{attributeNumber}
 use Rattle.pieces_cuts.specs.Places.{closing, Closes}
 use Rattle.rules_judge.specs.Tables as T
-use Rattle.rules_judge.specs.Tables.{intSize, tables-page}
+use Rattle.rules_judge.specs.Judging.{rowAt}
+use Rattle.rules_judge.specs.Tables.{ruleAt, hasNumber, intSize, tables-page}
 use Rattle.rules_judge.proofs.Below.{all-below, below}
 use Rattle.rules_judge.proofs.Sized.{default-size}
 use Rattle.tally_tag.specs.Numbered.{numbersBy}
 use Rattle.tags_values.specs.Codes.{amountFor, numbered, codeIn}
 use Rattle.tags_cells.specs.Cells.{hasOne, knownTwice, Fresh}
-use Rattle.tags_faults.specs.Told.{faultBy, Coded, faultsAt, told-page}
+use Rattle.tags_faults.specs.Told.{rulesBy, Coded, faultsAt, told-page}
 use Rattle.tags_faults.proofs.Ruled.{none-told}
 use Rattle.tags_faults.proofs.Faulted.{told, fault-small}
 use Rattle.tags_numbers.specs.Given.{givenIn, givenBy, Cells, Bounded}
@@ -38,7 +41,10 @@ use Rattle.tags_numbers.specs.declared.Given.{Given}
 use Rattle.tags_numbers.proofs.Numbered.{cells-held, given-held}
 use Rattle.tags_gather.specs.Gathers.{Gathers}
 use Rattle.tags_gather.specs.declared.Gathered.{Gathered}
-use Rattle.tags.specs.Reads.{Ends, noTag, closeOf, Reads}
+use Rattle.tags_wrong.specs.Named.{wrongBy, Finds}
+use Rattle.tags_wrong.specs.declared.Wrong.{Wrong}
+use Rattle.tags_wrong.proofs.Naming.{none-wrong}
+use Rattle.tags.specs.Reads.{Ends, noTag, closeOf, Tells, Reads}
 use Rattle.tags.specs.declared.Tag.{Tag}
 
 -- ── the end ──
@@ -155,10 +161,102 @@ noTag-reads s n e q = record {
   alone = λ z. absurd (z refl);
   told = λ z. absurd (z refl);
   small = omega arith;
+  inside = omega arith;
+  nowhere = λ z. refl;
   size = λ z. absurd (z refl);
   numbers = λ z. absurd (z refl);
   bounded = λ z. absurd (z refl);
 }
+
+-- ── the faults ──
+
+pub at-tag-told : (s : List ℕ) (n e : ℕ) (codes : List ℕ) (exact : ℕ) (known : Bool) {m : ℕ} → m ≡ rulesBy e codes exact → (m ≡ 0 → ⊥) → Tells s n e codes exact known (record { number = m; place = 0 })
+at-tag-told s n e codes exact known p z = record {
+  at-tag = λ q. (p, refl);
+  right = λ q. absurd (z (p ∙ q));
+  at-name = λ q. absurd (z (p ∙ q));
+}
+
+module _ (s : List ℕ) (n e : ℕ) (codes : List ℕ) (exact : ℕ) (known : Bool) {m : ℕ} (p : m ≡ rulesBy e codes exact) (z : m ≡ 0) {t : Bool} (w : t ≡ wrongBy e codes known) where
+  pub none-told-wrong : t ≡ false → Tells s n e codes exact known (record { number = 0; place = 0 })
+  none-told-wrong f = record {
+    at-tag = λ q. absurd (q (sym p ∙ z));
+    right = λ q g. (refl, refl);
+    at-name = λ q g. impossible (let y : false ≡ true = sym f ∙ w ∙ g in cc);
+  }
+
+  pub name-told-wrong : {r : Wrong} → t ≡ true → Finds s n e r → Tells s n e codes exact known r
+  name-told-wrong f v = record {
+    at-tag = λ q. absurd (q (sym p ∙ z));
+    right = λ q g. impossible (let y : true ≡ false = sym f ∙ w ∙ g in cc);
+    at-name = λ q g. v;
+  }
+
+pub ruleset tellings = (at-tag-told, none-told-wrong, name-told-wrong, needs)
+
+module _ (s : List ℕ) (n e : ℕ) {codes : List ℕ} {exact : ℕ} {known : Bool} {r : Wrong} where
+  told-inside : Tells s n e codes exact known r → r .place ≤ length s
+  told-inside u = ⊎-elim
+      (λ (z : rulesBy e codes exact ≡ 0). by (wrongBy e codes known) refl z)
+      (λ (z : rulesBy e codes exact ≡ 0 → ⊥). let q = u .at-tag z .1 in omega (arith, q))
+      (eq-or-ne (rulesBy e codes exact) 0)
+    where
+      by : (t : Bool) → wrongBy e codes known ≡ t → rulesBy e codes exact ≡ 0 → r .place ≤ length s
+      by true y z = u .at-name z y .high
+      by false y z = let q = u .right z y .1 in omega (arith, q)
+
+  told-nowhere : Tells s n e codes exact known r → r .number ≡ 0 → r .place ≡ 0
+  told-nowhere u m = ⊎-elim
+      (λ (z : rulesBy e codes exact ≡ 0). by (wrongBy e codes known) refl z)
+      (λ (z : rulesBy e codes exact ≡ 0 → ⊥). u .at-tag z .1)
+      (eq-or-ne (rulesBy e codes exact) 0)
+    where
+      by : (t : Bool) → wrongBy e codes known ≡ t → rulesBy e codes exact ≡ 0 → r .place ≡ 0
+      by true y z = u .at-name z y .none′ m
+      by false y z = u .right z y .1
+
+  module _ (w : Coded codes (attributes n 0 (drop n s))) where
+    told-small : Tells s n e codes exact known r → r .number ≤ 87
+    told-small u = ⊎-elim
+        (λ (z : rulesBy e codes exact ≡ 0). by (wrongBy e codes known) refl z)
+        (λ (z : rulesBy e codes exact ≡ 0 → ⊥). let q = u .at-tag z .0 in omega (arith, q, fault-small e {codes = codes} exact (attributes n 0 (drop n s)) w))
+        (eq-or-ne (rulesBy e codes exact) 0)
+      where
+        by : (t : Bool) → wrongBy e codes known ≡ t → rulesBy e codes exact ≡ 0 → r .number ≤ 87
+        by true y z = u .at-name z y .small
+        by false y z = let q = u .right z y .0 in omega (arith, q)
+
+    -- the least fault of the attributes is the one that is told
+    least-told : exact ≡ intSize (attributes n 0 (drop n s)) → known ≡ all (hasNumber (T.attributeOf (ruleAt e 0)) (T.attributeOf (ruleAt e 1)) (T.attributeOf (ruleAt e 2))) (attributes n 0 (drop n s))
+        → twice (attributes n 0 (drop n s)) ≡ false → Tells s n e codes exact known r → (p : ℕ) → p < n
+        → least (attributeFaults p (rowAt e) (attributes n 0 (drop n s))) ≡ least (faultsAt (cond (eqb (r .place) 0) p (r .place)) (r .number))
+    unfolding attributeFaults
+    least-told x k d u p l =
+        least-append (rulesFaults p (rowAt e .attributes) (attributes n 0 (drop n s))) (namesFaults (rowAt e .attributes) (attributes n 0 (drop n s)))
+        ∙ ap (λ (o : Option Fault). lesser o (least (namesFaults (rowAt e .attributes) (attributes n 0 (drop n s))))) (told e p (attributes n 0 (drop n s)) w x)
+        ∙ ⊎-elim (λ (z : rulesBy e codes exact ≡ 0). none z ∙ by (wrongBy e codes known) refl z) here (eq-or-ne (rulesBy e codes exact) 0)
+      where
+        names : Option Fault
+        names = least (namesFaults (rowAt e .attributes) (attributes n 0 (drop n s)))
+
+        here : (rulesBy e codes exact ≡ 0 → ⊥) → lesser (least (faultsAt p (rulesBy e codes exact))) names ≡ least (faultsAt (cond (eqb (r .place) 0) p (r .place)) (r .number))
+        here z = let q = u .at-tag z in rw (q .0, q .1) (at-front (rulesBy e codes exact) z)
+          where
+            at-front : (m : ℕ) → (m ≡ 0 → ⊥) → lesser (least (faultsAt p m)) names ≡ least (faultsAt p m)
+            at-front m z = unfold faultsAt least lesser in rw (ne-eqb m 0 z) (names-silent m p (rowAt e .attributes) (attributes n 0 (drop n s)) (attributes-behind (p + 1) n 0 (drop n s) (omega arith)))
+
+        none : rulesBy e codes exact ≡ 0 → lesser (least (faultsAt p (rulesBy e codes exact))) names ≡ names
+        none z = unfold faultsAt least lesser in rw z
+
+        by : (t : Bool) → wrongBy e codes known ≡ t → rulesBy e codes exact ≡ 0 → names ≡ least (faultsAt (cond (eqb (r .place) 0) p (r .place)) (r .number))
+        by false y z = let q = u .right z y in rw (none-wrong e (attributes n 0 (drop n s)) w k d (sym y) refl, q .0, q .1) (unfold faultsAt in refl)
+        by true y z = ⊎-elim
+            (λ (m : r .number ≡ 0). f .is ∙ (unfold faultsAt in rw m))
+            (λ (m : r .number ≡ 0 → ⊥). let q = f .low m in f .is ∙ rw (ne-eqb (r .place) 0 (λ c. omega (arith, c, q))))
+            (eq-or-ne (r .number) 0)
+          where
+            f : Finds s n e r
+            f = u .at-name z y
 
 is-none : (n : ℕ) (s : List Attribute) → n ≡ length s → eqb n 0 ≡ isEmpty s
 unfolding isEmpty
@@ -166,42 +264,44 @@ is-none n [] e = rw e
 is-none n (x ∷ s) e = ne-eqb n 0 (λ z. omega arith)
 
 module _ (s : List ℕ) (n e : ℕ) {l end : ℕ} {short : Bool} (c : Closes s n l) (d : Ends s l end short) where
-  closes-as : closeOf s n ≡ cond (twice (attributes 0 (drop n s))) none (cond (eqb end 0) none (some (short, drop end s)))
+  closes-as : closeOf s n ≡ cond (twice (attributes n 0 (drop n s))) none (cond (eqb end 0) none (some (short, drop end s)))
   unfolding closeOf
-  closes-as = ap (cond (twice (attributes 0 (drop n s))) none) (c .is ∙ d .is)
+  closes-as = ap (cond (twice (attributes n 0 (drop n s))) none) (c .is ∙ d .is)
 
   either-none : (t : Bool) → cond {A = Option (Bool × List ℕ)} t none none ≡ none
   either-none true = refl
   either-none false = refl
 
   pub not-closed : {r : Tag} → end ≡ 0 → r ≡ noTag → Reads s n e r
-  not-closed z q = rw q (noTag-reads s n e (closes-as ∙ rw z (either-none (twice (attributes 0 (drop n s))))))
+  not-closed z q = rw q (noTag-reads s n e (closes-as ∙ rw z (either-none (twice (attributes n 0 (drop n s))))))
 
-  module _ (z : end ≡ 0 → ⊥) {t : Bool} (w : t ≡ twice (attributes 0 (drop n s))) where
+  module _ (z : end ≡ 0 → ⊥) {t : Bool} (w : t ≡ twice (attributes n 0 (drop n s))) where
     pub doubled : {r : Tag} → t ≡ true → r ≡ noTag → Reads s n e r
     doubled f q = rw q (noTag-reads s n e (closes-as ∙ rw (← w, f)))
 
-    pub tag-read : {g : Gathered} {codes amounts : List ℕ} {fault : ℕ} {given : Given} → t ≡ false → Gathers e (attributes 0 (drop n s)) g codes amounts → fault ≡ faultBy e codes (g .exact) (g .known) → given ≡ givenIn e codes amounts → Bounded e given
-        → Reads s n e (record { end = end; short = short; refers = g .refers; bare = eqb (g .count) 0; fault = fault; exact = g .exact; given = given })
-    tag-read {g} {codes} {amounts} {fault} f v x y b = record {
+    pub tag-read : {g : Gathered} {codes amounts : List ℕ} {x : Wrong} {given : Given} → t ≡ false → Gathers e (attributes n 0 (drop n s)) g codes amounts → Tells s n e codes (g .exact) (g .known) x → given ≡ givenIn e codes amounts → Bounded e given
+        → Reads s n e (record { end = end; short = short; refers = g .refers; bare = eqb (g .count) 0; fault = x .number; exact = g .exact; wrong = x .place; given = given })
+    tag-read {g} {codes} {amounts} {x} f v u y b = record {
       closes = closes-as ∙ rw (← w, f);
       low = λ q. omega (arith, c .low, d .low z);
       high = d .high;
       none′ = λ q. absurd (z q);
       refer = λ q. v .refer;
-      alone = λ q. is-none (g .count) (attributes 0 (drop n s)) (v .count);
-      told = λ q p. told e p (attributes 0 (drop n s)) coded (v .exact) (v .know) ∙ ap (λ (m : ℕ). least (faultsAt p m)) (sym x);
-      small = omega (arith, x, fault-small e {codes = codes} (g .exact) (g .known) (attributes 0 (drop n s)) coded);
+      alone = λ q. is-none (g .count) (attributes n 0 (drop n s)) (v .count);
+      told = λ q p. least-told s n e coded (v .exact) (v .know) (sym w ∙ f) u p;
+      small = told-small s n e coded u;
+      inside = told-inside s n e u;
+      nowhere = told-nowhere s n e u;
       size = λ q. v .exact;
-      numbers = λ q. y ∙ given-held (attributes 0 (drop n s)) (v .cells) e;
+      numbers = λ q. y ∙ given-held (attributes n 0 (drop n s)) (v .cells) e;
       bounded = λ q. b;
     }
       where
-        coded : Coded codes (attributes 0 (drop n s))
+        coded : Coded codes (attributes n 0 (drop n s))
         coded = record { each = v .cells .code }
 
-  pub cells-right : {g : Gathered} {codes amounts : List ℕ} → Gathers e (attributes 0 (drop n s)) g codes amounts → Cells codes amounts
-  cells-right v = cells-held (attributes 0 (drop n s)) (v .cells)
+  pub cells-right : {g : Gathered} {codes amounts : List ℕ} → Gathers e (attributes n 0 (drop n s)) g codes amounts → Cells codes amounts
+  cells-right v = cells-held (attributes n 0 (drop n s)) (v .cells)
 
 -- ── a tag without attributes ──
 
@@ -220,7 +320,7 @@ module _ (s : List ℕ) (n e : ℕ) {a : Bool} (w : a ≡ begins (62 ∷ []) (dr
   front : drop n s ≡ 62 ∷ drop (n + 1) s
   front = drop-next s n here ∙ ap (λ (b : ℕ). b ∷ drop (n + 1) s) is-mark
 
-  no-attributes : attributes 0 (drop n s) ≡ []
+  no-attributes : attributes n 0 (drop n s) ≡ []
   unfolding attributes blank
   no-attributes = rw front
 
@@ -231,8 +331,12 @@ module _ (s : List ℕ) (n e : ℕ) {a : Bool} (w : a ≡ begins (62 ∷ []) (dr
   none-coded : Coded [] []
   none-coded = record { each = λ a l h. unfold codeIn numbered in refl }
 
-  pub bare-read : {fault : ℕ} {given : Given} → fault ≡ faultBy e [] 1 true → given ≡ givenBy e (numbersBy e []) → Bounded e given
-      → Reads s n e (record { end = n + 1; short = false; refers = false; bare = true; fault = fault; exact = 1; given = given })
+  none-named : (p : ℕ) → least (attributeFaults p (rowAt e) []) ≡ least (rulesFaults p (rowAt e .attributes) [])
+  unfolding attributeFaults namesFaults
+  none-named p = ap least (append-nil (rulesFaults p (rowAt e .attributes) []))
+
+  pub bare-read : {fault : ℕ} {given : Given} → fault ≡ rulesBy e [] 1 → given ≡ givenBy e (numbersBy e []) → Bounded e given
+      → Reads s n e (record { end = n + 1; short = false; refers = false; bare = true; fault = fault; exact = 1; wrong = 0; given = given })
   bare-read {fault} x y b = record {
     closes = unfold closeOf twice in rw (no-attributes, ends-here, ne-eqb (n + 1) 0 (λ z. omega arith));
     low = λ q. omega arith;
@@ -240,8 +344,10 @@ module _ (s : List ℕ) (n e : ℕ) {a : Bool} (w : a ≡ begins (62 ∷ []) (dr
     none′ = λ q. absurd (omega arith);
     refer = λ q. unfold refers any in rw no-attributes;
     alone = λ q. unfold isEmpty in rw no-attributes;
-    told = λ q p. ap (λ (xs : List Attribute). least (attributeFaults p (Rattle.rules_judge.specs.Judging.rowAt e) xs)) no-attributes ∙ told e p {codes = []} {exact = 1} {t = true} [] none-coded (sym default-size) (unfold all in refl) ∙ ap (λ (m : ℕ). least (faultsAt p m)) (sym x);
-    small = omega (arith, x, fault-small e {codes = []} 1 true [] none-coded);
+    told = λ q p l. ap (λ (xs : List Attribute). least (attributeFaults p (rowAt e) xs)) no-attributes ∙ none-named p ∙ told e p {codes = []} {exact = 1} [] none-coded (sym default-size) ∙ ap (λ (m : ℕ). least (faultsAt p m)) (sym x);
+    small = omega (arith, x, fault-small e {codes = []} 1 [] none-coded);
+    inside = omega arith;
+    nowhere = λ q. refl;
     size = λ q. sym (ap intSize no-attributes ∙ default-size);
     numbers = λ q. rw no-attributes y;
     bounded = λ q. b;
@@ -250,18 +356,18 @@ module _ (s : List ℕ) (n e : ℕ) {a : Bool} (w : a ≡ begins (62 ∷ []) (dr
 pub ruleset bare-tags = (bare-read, needs)
 
 -- which attributes must be there
-must : all-below 12 (λ e. (eqb e 1 || (eqb e 4 || (eqb e 7 || eqb e 9))) || eqb (faultBy e [] 1 true) 0) ≡ true
+must : all-below 12 (λ e. (eqb e 1 || (eqb e 4 || (eqb e 7 || eqb e 9))) || eqb (rulesBy e [] 1) 0) ≡ true
 unfolding all-below told-page tables-page
 must = refl
 
 module _ (e : ℕ) where
-  pub one-needed : {k : ℕ} → e ≡ k → 8 ≡ faultBy k [] 1 true → 8 ≡ faultBy e [] 1 true
+  pub one-needed : {k : ℕ} → e ≡ k → 86 ≡ rulesBy k [] 1 → 86 ≡ rulesBy e [] 1
   one-needed q f = rw q f
 
-  pub none-needed : (e ≡ 1 → ⊥) → (e ≡ 4 → ⊥) → (e ≡ 7 → ⊥) → (e ≡ 9 → ⊥) → 0 ≡ faultBy e [] 1 true
+  pub none-needed : (e ≡ 1 → ⊥) → (e ≡ 4 → ⊥) → (e ≡ 7 → ⊥) → (e ≡ 9 → ⊥) → 0 ≡ rulesBy e [] 1
   none-needed a b c d = ⊎-elim
-      (λ (h : e < 12). sym (eqb-true _ 0 (rw (ne-eqb e 1 a, ne-eqb e 4 b, ne-eqb e 7 c, ne-eqb e 9 d) at (below 12 (λ e. (eqb e 1 || (eqb e 4 || (eqb e 7 || eqb e 9))) || eqb (faultBy e [] 1 true) 0) must e h))))
-      (λ (h : 12 ≤ e). none-told e [] 1 refl (omega arith))
+      (λ (h : e < 12). sym (eqb-true _ 0 (rw (ne-eqb e 1 a, ne-eqb e 4 b, ne-eqb e 7 c, ne-eqb e 9 d) at (below 12 (λ e. (eqb e 1 || (eqb e 4 || (eqb e 7 || eqb e 9))) || eqb (rulesBy e [] 1) 0) must e h))))
+      (λ (h : 12 ≤ e). none-told e [] 1 (omega arith))
       (lt-or-le e 12)
 
 pub ruleset needed = (one-needed, none-needed, needs)

@@ -10,18 +10,21 @@ use tags_gather::gather;
 use tags_numbers::Given;
 use tags_numbers::bare_numbers;
 use tags_numbers::numbers_in;
+use tags_wrong::Wrong;
+use tags_wrong::first_wrong;
+use tags_wrong::is_any_wrong;
 ghost use mathlib.Core.Path.{_≡_};
 ghost use mathlib.Core.List.{[]};
-ghost use mathlib.Core.Bool.{true};
 ghost use Prim.Native.Nat.{_≤_};
 ghost use lib.ListN.{length, drop};
 ghost use Rattle.cdi.specs.Lists.{any};
 ghost use Rattle.cdi.specs.Pieces.{attributes, twice};
 ghost use Rattle.tags_cells.specs.Cells.{hasOne, knownTwice};
-ghost use Rattle.tags_faults.specs.Told.{faultBy};
-ghost use Rattle.tags.specs.Reads.{Ends, noTag, Reads};
+ghost use Rattle.tags_faults.specs.Told.{rulesBy};
+ghost use Rattle.tags.specs.Reads.{Ends, noTag, Tells, Reads};
 
-// `end` is behind the tag, 0 where it is malformed; `fault` the least number of its attributes' faults, or 0; `exact` the size that it says exactly.
+// `end` is behind the tag, 0 where it is malformed; `fault` the number of the least of its attributes' faults, or 0; `wrong` the place of the name where
+// that one stands, or 0 where it stands at the tag's `<`; `exact` the size that it says exactly.
 pub struct Tag {
     pub end: usize,
     pub short: bool,
@@ -29,6 +32,7 @@ pub struct Tag {
     pub bare: bool,
     pub fault: u8,
     pub exact: u8,
+    pub wrong: usize,
     pub given: Given,
 }
 
@@ -86,6 +90,7 @@ fn no_tag() -> Tag
         bare: false,
         fault: 0,
         exact: 0,
+        wrong: 0,
         given,
     }
 }
@@ -94,7 +99,7 @@ fn no_tag() -> Tag
 // tells how many names need room. Nothing rests on that.
 fn is_twice(s: &[u8], at: usize, last: usize) -> bool
     requires { ⌜ (at ≤ last) × (last ≤ length (now s)) ⌝ }
-    ensures { λ r. ⌜ r ≡ twice (attributes 0 (drop at (now (s .entry)))) ⌝ }
+    ensures { λ r. ⌜ r ≡ twice (attributes at 0 (drop at (now (s .entry)))) ⌝ }
 {
     if last - at < 320 {
         return is_twice_among_few(s, at);
@@ -107,8 +112,8 @@ fn is_twice(s: &[u8], at: usize, last: usize) -> bool
 
 // The same, where it is known whether one of the ten names stands twice and whether a name is none of them: else no name does.
 fn is_double(s: &[u8], at: usize, last: usize, again: bool, strange: bool) -> bool
-    requires { ⌜ (at ≤ last) × (last ≤ length (now s)) × (again ≡ knownTwice (attributes 0 (drop at (now s)))) × (strange ≡ any (hasOne 0) (attributes 0 (drop at (now s)))) ⌝ }
-    ensures { λ r. ⌜ r ≡ twice (attributes 0 (drop at (now (s .entry)))) ⌝ }
+    requires { ⌜ (at ≤ last) × (last ≤ length (now s)) × (again ≡ knownTwice (attributes at 0 (drop at (now s)))) × (strange ≡ any (hasOne 0) (attributes at 0 (drop at (now s)))) ⌝ }
+    ensures { λ r. ⌜ r ≡ twice (attributes at 0 (drop at (now (s .entry)))) ⌝ }
 {
     if again | strange {
         return is_twice(s, at, last);
@@ -118,21 +123,39 @@ fn is_double(s: &[u8], at: usize, last: usize, again: bool, strange: bool) -> bo
 
 // The fault of a tag without attributes: one that must be there.
 fn bare_fault(element: u8) -> u8
-    ensures { λ r. ⌜ r ≡ faultBy element [] 1 true ⌝ }
+    ensures { λ r. ⌜ r ≡ rulesBy element [] 1 ⌝ }
 {
     if element == 1 {
-        return 8;
+        return 86;
     }
     if element == 4 {
-        return 8;
+        return 86;
     }
     if element == 7 {
-        return 8;
+        return 86;
     }
     if element == 9 {
-        return 8;
+        return 86;
     }
     0
+}
+
+// The least fault of a tag's attributes, by what they say: at the tag's `<`, or else at a name.
+fn told(s: &[u8], behind: usize, element: u8, codes: &[u8; 11], exact: u8, known: bool) -> Wrong
+    requires { ⌜ behind ≤ length (now s) ⌝ }
+    ensures { λ r. ⌜ Tells (now (s .entry)) behind element (now (codes .entry)) exact known r ⌝ }
+{
+    let number = fault_of(element, codes, exact);
+    if number == 0 {
+        if is_any_wrong(element, codes, known) {
+            return first_wrong(s, behind, element);
+        }
+        return Wrong {
+            number: 0,
+            place: 0,
+        };
+    }
+    Wrong { number, place: 0 }
 }
 
 // A tag with attributes, or with a blank or a slash behind its name.
@@ -150,22 +173,23 @@ fn attributed(s: &[u8], behind: usize, element: u8) -> Tag
     if is_double(s, behind, g.last, g.again, g.strange) {
         return no_tag();
     }
-    let fault = fault_of(element, &codes, g.exact, g.known);
+    let w = told(s, behind, element, &codes, g.exact, g.known);
     let given = numbers_in(element, &codes, &amounts);
     Tag {
         end: e.end,
         short: e.short,
         refers: g.refers,
         bare: g.count == 0,
-        fault,
+        fault: w.number,
         exact: g.exact,
+        wrong: w.place,
         given,
     }
 }
 
 // The start tag of an element of that number, whose name ends before `behind`.
 pub fn start_tag(s: &[u8], behind: usize, element: u8) -> Tag
-    requires { ⌜ behind ≤ length (now s) ⌝ }
+    requires { ⌜ (1 ≤ behind) × (behind ≤ length (now s)) ⌝ }
     ensures { λ r. ⌜ Reads (now (s .entry)) behind element r ⌝ }
 {
     if is_at(s, behind, b'>') {
@@ -177,6 +201,7 @@ pub fn start_tag(s: &[u8], behind: usize, element: u8) -> Tag
             bare: true,
             fault: bare_fault(element),
             exact: 1,
+            wrong: 0,
             given,
         };
     }

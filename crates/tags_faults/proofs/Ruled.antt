@@ -6,13 +6,14 @@ use mathlib.Core.Logic.{⊎-elim}
 use Prim.Native.Nat.{ℕ, zero, suc, _+_, _/_, _%_, _^_, _≤_, _<_}
 use native.Mathlib.Omega.{arith}
 use borrow.Author.Needs.{needs}
-use borrow.Author.Tests.{eqb-true}
+use borrow.Author.Tests.{eqb-true, lt-ltb, le-ltb, eq-eqb, ne-eqb}
 use lib.Dec.{eqb}
 use lib.ListN.{length, getD, List·getD-eq-default}
+use Rattle.cdi.specs.Faults.{rank}
 use Rattle.scan.proofs.Tests.{eq-or-ne, lt-or-le}
 use Rattle.rules_judge.specs.Tables.{ruleNumbers, ruleAt, attributeOf, isOneOf, tables-page}
 use Rattle.rules_judge.proofs.Below.{all-below, below, Below, at-below, alike, alike-equal}
-use Rattle.tags_faults.specs.Told.{knownSets, knownSet, hasBit, lesserOf, ruleBy, rulesBy, faultBy, told-page}
+use Rattle.tags_faults.specs.Told.{knownSets, knownSet, hasBit, lesserOf, ruleBy, rulesBy, told-page}
 
 -- ── which attributes an element knows ──
 
@@ -29,7 +30,7 @@ unfolding all-below alike hasBit tables-page
 knows-none = refl
 
 module _ (e : ℕ) where
-  none-known : 12 ≤ e → (i : ℕ) → ruleAt e i ≡ 0
+  pub none-known : 12 ≤ e → (i : ℕ) → ruleAt e i ≡ 0
   unfolding ruleAt
   none-known h i = ap (λ (l : List ℕ). getD l i 0) (List·getD-eq-default ruleNumbers [] (unfold ruleNumbers in h))
 
@@ -61,6 +62,27 @@ bit-is s n e = rw e
 pub ruleset known-sets = (set-is, set-none, needs)
 
 -- ── the faults ──
+
+module _ (m n : ℕ) where
+  pub no-first : m ≡ 0 → n ≡ lesserOf m n
+  unfolding lesserOf
+  no-first e = rw (eq-eqb m 0 e)
+
+  module _ (e : m ≡ 0 → ⊥) where
+    pub no-second : n ≡ 0 → m ≡ lesserOf m n
+    unfolding lesserOf
+    no-second f = rw (ne-eqb m 0 e, eq-eqb n 0 f)
+
+    module _ (f : n ≡ 0 → ⊥) {i j a b : ℕ} (p : i ≡ n) (q : a ≡ rank i) (r : j ≡ m) (t : b ≡ rank j) where
+      pub second-first : a < b → n ≡ lesserOf m n
+      unfolding lesserOf
+      second-first h = rw (ne-eqb m 0 e, ne-eqb n 0 f, ← p, ← r, ← q, ← t, lt-ltb a b h) refl
+
+      pub first-first : b ≤ a → m ≡ lesserOf m n
+      unfolding lesserOf
+      first-first h = rw (ne-eqb m 0 e, ne-eqb n 0 f, ← p, ← r, ← q, ← t, le-ltb a b h) refl
+
+pub ruleset firsts = (no-first, no-second, second-first, first-first, needs)
 
 pub chain : (x y u : ℕ) {z r : ℕ} → r ≡ lesserOf x z → z ≡ lesserOf y u → r ≡ lesserOf x (lesserOf y u)
 chain x y u e f = e ∙ rw f
@@ -115,17 +137,12 @@ module _ (e : ℕ) (codes : List ℕ) where
   outer-each exact = (refl, (refl, (refl, (refl, (refl, (refl, tt))))))
 
   module _ (exact : ℕ) where
-    pub outer-told : {known : Bool} {r : ℕ} → known ≡ true → e < 6 → r ≡ rulesBy e codes 0 → r ≡ faultBy e codes exact known
-    unfolding faultBy OuterAny
-    outer-told k h f = f ∙ at-below (OuterAny exact) 6 (outer-each exact) e h ∙ rw k
+    pub outer-told : {r : ℕ} → e < 6 → r ≡ rulesBy e codes 0 → r ≡ rulesBy e codes exact
+    unfolding OuterAny
+    outer-told h f = f ∙ at-below (OuterAny exact) 6 (outer-each exact) e h
 
-    pub inner-told : {known : Bool} {r : ℕ} → known ≡ true → r ≡ rulesBy e codes exact → r ≡ faultBy e codes exact known
-    unfolding faultBy
-    inner-told k f = f ∙ rw k
-
-    pub none-told : {known : Bool} → known ≡ true → 10 ≤ e → 0 ≡ faultBy e codes exact known
-    unfolding faultBy
-    none-told k h = no-rules e codes exact (far 0) (far 1) (far 2) ∙ rw k
+    pub none-told : 10 ≤ e → 0 ≡ rulesBy e codes exact
+    none-told h = no-rules e codes exact (far 0) (far 1) (far 2)
       where
         far : (i : ℕ) → ruleAt e i ≡ 0
         far i = unfold ruleAt ruleNumbers in ⊎-elim
@@ -136,8 +153,4 @@ module _ (e : ℕ) (codes : List ℕ) where
             (eq-or-ne e 11))
             (eq-or-ne e 10)
 
-    pub unknown-told : {known : Bool} → known ≡ false → 8 ≡ faultBy e codes exact known
-    unfolding faultBy
-    unknown-told k = rw k
-
-pub ruleset fault-cases = (outer-told, inner-told, none-told, unknown-told, needs)
+pub ruleset fault-cases = (outer-told, none-told, needs)

@@ -1,9 +1,10 @@
-// The faults of a tag's attributes against the rules of its element, by the codes of their values: the least of their numbers, or 0. All stand at
-// the tag's `<`.
+// The faults of a tag's attributes against the rules of its element that stand at the tag's `<`, by the codes of their values: the number of the least,
+// or 0. Those of names and texts stand at the names.
 
+use keys::rank_of;
 ghost use mathlib.Core.Path.{_≡_};
 ghost use Prim.Native.Nat.{_≤_, _<_};
-ghost use Rattle.tags_faults.specs.Told.{knownSet, hasBit, lesserOf, ownBy, neededBy, intBy, floatBy, rulesBy, faultBy};
+ghost use Rattle.tags_faults.specs.Told.{knownSet, hasBit, lesserOf, ownBy, neededBy, thereBy, intBy, floatBy, rulesBy};
 
 // The numbers of attributes.
 const NAMESPACE: usize = 1;
@@ -23,8 +24,6 @@ const REPLICATION: usize = 7;
 const OFFSET: usize = 8;
 
 const SIZE: usize = 9;
-
-const FORMATTING: usize = 10;
 
 // The attributes that each element knows, from the text itself to relation: bit n of a number is the attribute of number n.
 const KNOWN: [u64; 12] = [
@@ -67,7 +66,7 @@ pub fn is_among(set: u64, number: u8) -> bool
     (set >> wide(number)) % 2 == 1
 }
 
-// The smaller of two numbers of faults, of which 0 is none.
+// The one of two numbers of faults that comes first, of which 0 is none.
 fn lesser(m: u8, n: u8) -> u8
     ensures { λ r. ⌜ r ≡ lesserOf m n ⌝ }
 {
@@ -77,7 +76,7 @@ fn lesser(m: u8, n: u8) -> u8
     if n == 0 {
         return m;
     }
-    if n < m {
+    if rank_of(wide(n)) < rank_of(wide(m)) {
         return n;
     }
     m
@@ -89,7 +88,7 @@ fn least(one: u8, two: u8, three: u8) -> u8
     lesser(one, lesser(two, three))
 }
 
-// The fault of a value that is there.
+// The fault of a number that is there.
 fn own(code: u8) -> u8
     ensures { λ r. ⌜ r ≡ ownBy code ⌝ }
 {
@@ -104,9 +103,19 @@ fn needed(code: u8) -> u8
     ensures { λ r. ⌜ r ≡ neededBy code ⌝ }
 {
     if code == 0 {
-        return 8;
+        return 86;
     }
     own(code)
+}
+
+// The fault of a text that must be there.
+fn needed_text(code: u8) -> u8
+    ensures { λ r. ⌜ r ≡ thereBy code ⌝ }
+{
+    if code == 0 {
+        return 86;
+    }
+    0
 }
 
 // The fault of an int's size, by the exact size that its text says.
@@ -124,7 +133,7 @@ fn float_fault(code: u8, exact: u8) -> u8
     ensures { λ r. ⌜ r ≡ floatBy code exact ⌝ }
 {
     if code == 0 {
-        return 8;
+        return 86;
     }
     if exact < 2 {
         return 10;
@@ -144,7 +153,7 @@ fn outer_fault(element: u8, codes: &[u8; 11]) -> u8
         return least(own(codes[REPLICATION]), own(codes[OFFSET]), 0);
     }
     if element == 1 {
-        return least(needed(codes[NAMESPACE]), needed(codes[SCHEMA]), 0);
+        return least(needed_text(codes[NAMESPACE]), needed_text(codes[SCHEMA]), 0);
     }
     if element == 3 {
         return least(own(codes[FIXED]), own(codes[VAR]), 0);
@@ -167,25 +176,18 @@ fn inner_fault(element: u8, codes: &[u8; 11], exact: u8) -> u8
     if element == 8 {
         return least(offset, 0, 0);
     }
-    least(
-        float_fault(codes[SIZE], exact),
-        offset,
-        own(codes[FORMATTING]),
-    )
+    least(float_fault(codes[SIZE], exact), offset, 0)
 }
 
-// The least number of the faults of a tag of that element.
-pub fn fault_of(element: u8, codes: &[u8; 11], exact: u8, known: bool) -> u8
-    ensures { λ r. ⌜ r ≡ faultBy element (now (codes .entry)) exact known ⌝ }
+// The number of the least fault of a tag of that element.
+pub fn fault_of(element: u8, codes: &[u8; 11], exact: u8) -> u8
+    ensures { λ r. ⌜ r ≡ rulesBy element (now (codes .entry)) exact ⌝ }
 {
-    if known {
-        if element < 6 {
-            return outer_fault(element, codes);
-        }
-        if element < 10 {
-            return inner_fault(element, codes, exact);
-        }
-        return 0;
+    if element < 6 {
+        return outer_fault(element, codes);
     }
-    8
+    if element < 10 {
+        return inner_fault(element, codes, exact);
+    }
+    0
 }

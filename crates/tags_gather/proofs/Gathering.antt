@@ -26,6 +26,7 @@ use Rattle.rules_judge.specs.Tables.{ruleAt, isOneOf, hasNumber, sizeIn, intSiz
 use Rattle.tags_spots.specs.Spots.{placesOf, Tells}
 use Rattle.tags_spots.specs.declared.Spot.{Spot}
 use Rattle.tags_values.specs.Codes.{amountFor, codeOf, amountOf, numbered, codeIn, amountIn}
+use Rattle.tags_values.proofs.Numbered.{front-code, behind-code, front-amount, behind-amount}
 use Rattle.tags_values.proofs.Formed.{code-there}
 use Rattle.tags_values.proofs.Numbered.{by-number}
 use Rattle.tags_faults.specs.Told.{knownSet, hasBit}
@@ -98,24 +99,6 @@ module _ (a : ℕ) (v codes : List ℕ) where
         by : (t : Bool) → length (cond t (set amounts a (amountOf a v)) amounts) ≡ length amounts
         by true = length-set amounts a (amountOf a v)
         by false = refl
-
--- an attribute in front
-module _ (x : Attribute) (rest : List Attribute) (b : ℕ) where
-  front-code : attributeNumber (x .name) ≡ b → codeIn b (x ∷ rest) ≡ codeOf b (x .value)
-  unfolding codeIn numbered
-  front-code e = rw (eq-eqb _ _ e)
-
-  behind-code : (attributeNumber (x .name) ≡ b → ⊥) → codeIn b (x ∷ rest) ≡ codeIn b rest
-  unfolding codeIn numbered
-  behind-code e = rw (ne-eqb _ _ e)
-
-  front-amount : attributeNumber (x .name) ≡ b → amountIn b (x ∷ rest) ≡ amountOf b (x .value)
-  unfolding amountIn numbered
-  front-amount e = rw (eq-eqb _ _ e)
-
-  behind-amount : (attributeNumber (x .name) ≡ b → ⊥) → amountIn b (x ∷ rest) ≡ amountIn b rest
-  unfolding amountIn numbered
-  behind-amount e = rw (ne-eqb _ _ e)
 
 -- what was noted before, and what is still to come
 pub record Noted (s rest : List Attribute) (codes amounts : List ℕ) (exact : ℕ) : Type 0 where
@@ -350,8 +333,8 @@ module _ {one two three : ℕ} {s rest : List Attribute} {x : Attribute} {codes 
 -- the tag's attributes from a place on, of which those before i are noted
 pub record Going (e at : ℕ) (s : List ℕ) (i : ℕ) (codes amounts : List ℕ) (count exact : ℕ) (referred known again strange : Bool) : Type 0 where
   pub tag : Closing s at i
-  pub noted : Noted (attributes 0 (drop at s)) (attributes 0 (drop i s)) codes amounts exact
-  pub flagged : Flagged (T.attributeOf (ruleAt e 0)) (T.attributeOf (ruleAt e 1)) (T.attributeOf (ruleAt e 2)) (attributes 0 (drop at s)) (attributes 0 (drop i s)) codes count referred known again strange
+  pub noted : Noted (attributes at 0 (drop at s)) (attributes i 0 (drop i s)) codes amounts exact
+  pub flagged : Flagged (T.attributeOf (ruleAt e 0)) (T.attributeOf (ruleAt e 1)) (T.attributeOf (ruleAt e 2)) (attributes at 0 (drop at s)) (attributes i 0 (drop i s)) codes count referred known again strange
   pub few : count ≤ i
   pub small : exact ≤ 8
 
@@ -372,7 +355,7 @@ module _ {e at : ℕ} {s : List ℕ} {i : ℕ} {codes amounts : List ℕ} {count
     pub gone : a .end ≡ i → Closes s at i
     gone z = last-one (w .tag) v z
 
-    pub all-gathered : a .end ≡ i → Gathers e (attributes 0 (drop at s)) (record { last = i; count = count; exact = exact; refers = referred; known = known; again = again; strange = strange }) codes amounts
+    pub all-gathered : a .end ≡ i → Gathers e (attributes at 0 (drop at s)) (record { last = i; count = count; exact = exact; refers = referred; known = known; again = again; strange = strange }) codes amounts
     all-gathered z = record {
       count = sym (w .flagged .counted ∙ rw none (plus-none count));
       refer = sym (w .flagged .refer ∙ (unfold refers any in rw none (or-false referred)));
@@ -383,7 +366,7 @@ module _ {e at : ℕ} {s : List ℕ} {i : ℕ} {codes amounts : List ℕ} {count
       cells = record { code = λ b l h. sym (w .noted .code b l h ∙ code b); amount = λ b l h. sym (w .noted .amount b l h ∙ amount b l h) };
     }
       where
-        none : attributes 0 (drop i s) ≡ []
+        none : attributes i 0 (drop i s) ≡ []
         none = no-more v z
 
         plus-none : (n : ℕ) → n + 0 ≡ n
@@ -397,19 +380,19 @@ module _ {e at : ℕ} {s : List ℕ} {i : ℕ} {codes amounts : List ℕ} {count
         and-true true = refl
         and-true false = refl
 
-        size : cond (eqb (getD codes 9 0) 0) (intSize (attributes 0 (drop i s))) exact ≡ exact
+        size : cond (eqb (getD codes 9 0) 0) (intSize (attributes i 0 (drop i s))) exact ≡ exact
         size = ⊎-elim
             (λ (q : getD codes 9 0 ≡ 0). rw (q, none) (default-size ∙ sym (w .noted .no-size q)))
             (λ (q : getD codes 9 0 ≡ 0 → ⊥). rw (ne-eqb (getD codes 9 0) 0 q))
             (eq-or-ne (getD codes 9 0) 0)
 
-        code : (b : ℕ) → cond (eqb (getD codes b 0) 0) (codeIn b (attributes 0 (drop i s))) (getD codes b 0) ≡ getD codes b 0
+        code : (b : ℕ) → cond (eqb (getD codes b 0) 0) (codeIn b (attributes i 0 (drop i s))) (getD codes b 0) ≡ getD codes b 0
         code b = ⊎-elim
             (λ (q : getD codes b 0 ≡ 0). unfold codeIn numbered in rw (q, none))
             (λ (q : getD codes b 0 ≡ 0 → ⊥). rw (ne-eqb (getD codes b 0) 0 q))
             (eq-or-ne (getD codes b 0) 0)
 
-        amount : (b : ℕ) → 1 ≤ b → b ≤ 10 → cond (eqb (getD codes b 0) 0) (amountIn b (attributes 0 (drop i s))) (getD amounts b 0) ≡ getD amounts b 0
+        amount : (b : ℕ) → 1 ≤ b → b ≤ 10 → cond (eqb (getD codes b 0) 0) (amountIn b (attributes i 0 (drop i s))) (getD amounts b 0) ≡ getD amounts b 0
         amount b l h = ⊎-elim
             (λ (q : getD codes b 0 ≡ 0). unfold amountIn numbered in rw (q, none) (sym (w .noted .none-yet b l h q)))
             (λ (q : getD codes b 0 ≡ 0 → ⊥). rw (ne-eqb (getD codes b 0) 0 q))
@@ -437,10 +420,10 @@ module _ {e at : ℕ} {s : List ℕ} {i : ℕ} {codes amounts : List ℕ} {count
         small = omega (arith, q, l);
       })
         where
-          next-noted : Noted (attributes 0 (drop at s)) (attributeOf s (placesOf a) ∷ attributes 0 (drop (a .end) s)) codes amounts exact
+          next-noted : Noted (attributes at 0 (drop at s)) (attributeOf s (placesOf a) ∷ attributes (a .end) 0 (drop (a .end) s)) codes amounts exact
           next-noted = rw (← one-more v z) (w .noted)
 
-          next-flagged : Flagged (T.attributeOf (ruleAt e 0)) (T.attributeOf (ruleAt e 1)) (T.attributeOf (ruleAt e 2)) (attributes 0 (drop at s)) (attributeOf s (placesOf a) ∷ attributes 0 (drop (a .end) s)) codes count referred known again strange
+          next-flagged : Flagged (T.attributeOf (ruleAt e 0)) (T.attributeOf (ruleAt e 1)) (T.attributeOf (ruleAt e 2)) (attributes at 0 (drop at s)) (attributeOf s (placesOf a) ∷ attributes (a .end) 0 (drop (a .end) s)) codes count referred known again strange
           next-flagged = rw (← one-more v z) (w .flagged)
 
 pub ruleset gathering = (going, here, counted-low, exact-small, gone, all-gathered, number-small, value-low, value-high, one-step, less, needs)

@@ -51,7 +51,7 @@ pub fn gather(
 ) -> Gathered
     requires { ⌜ (at ≤ length (now s)) × Fresh (now codes) (now amounts) ⌝ }
     ensures closes { λ r. ⌜ Closes (now (s .entry)) at (r .last) ⌝ }
-    ensures gathers { λ r. ⌜ Gathers element (attributes 0 (drop at (now (s .entry)))) r (now (codes .exit)) (now (amounts .exit)) ⌝ }
+    ensures gathers { λ r. ⌜ Gathers element (attributes at 0 (drop at (now (s .entry)))) r (now (codes .exit)) (now (amounts .exit)) ⌝ }
 {
     let set = known_to(element);
     let mut i = at;

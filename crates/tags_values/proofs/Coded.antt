@@ -1,20 +1,21 @@
 -- A value's code and its amount, by each way through the code.
 use mathlib.Core.Path.{_≡_, refl, sym, _∙_}
 use mathlib.Core.List.{List}
-use mathlib.Core.Bool.{Bool, true, false, cond, _||_}
+use mathlib.Core.Bool.{Bool, true, false, cond, not, _||_}
 use mathlib.Core.Option.{Option, none, some}
 use mathlib.Core.Logic.{⊎-elim}
 use Prim.Native.Nat.{ℕ, _+_, _-_, _≤_, _<_}
 use native.Mathlib.Omega.{arith}
 use borrow.Author.Needs.{needs}
 use borrow.Author.Tests.{lt-ltb, le-ltb, eq-eqb, ne-eqb}
+use lib.Dec.{eqb}
 use lib.IntN.{ℤ}
 use Rattle.cdi.specs.Lists.{ascii, same, lists-page}
 use Rattle.cdi.specs.Numbers.{number, within}
 use Rattle.cdi.specs.Rows.{range, rows-page}
 use Rattle.cdi.specs.Rules.{isFormatting}
 use Rattle.cdi.proofs.Quiet.{impossible}
-use Rattle.scan.proofs.Tests.{lt-or-le, eq-or-ne}
+use Rattle.scan.proofs.Tests.{lt-or-le, eq-or-ne, via}
 use Rattle.numbers.specs.Held.{signedOf, numberOf, Judges}
 use Rattle.numbers.specs.declared.Signed.{Signed}
 use Rattle.numbers.specs.declared.Number.{Number}
@@ -22,6 +23,7 @@ use Rattle.numbers.specs.declared.Number.the-variants.{Is, Not}
 use Rattle.rules_judge.specs.Tables.{formOf, tables-page}
 use Rattle.rules_judge.proofs.Below.{Below, at-below}
 use Rattle.tags_values.specs.Codes.{rangeCode, formCode, rangeAmount, textual, lowAt, highAt, amountFor, ruleFor, codeOf, amountOf, codes-page}
+use Rattle.tags_values.proofs.Formed.{range-code}
 use Rattle.tags_values.proofs.Ranged.{sized}
 
 -- ── texts and numbers ──
@@ -120,25 +122,25 @@ pub ruleset number-codes = (no-number, no-amount, good-code, good-amount, bad-co
 -- ── texts ──
 
 module _ (a : ℕ) (v : List ℕ) {r : Bool} where
-  pub first-text : a ≡ 1 → r ≡ same v (ascii "http://www.w3.org/2001/XMLSchema-instance") → codeOf a v ≡ cond r 1 8
+  pub first-text : a ≡ 1 → r ≡ same v (ascii "http://www.w3.org/2001/XMLSchema-instance") → codeOf a v ≡ cond r 1 87
   unfolding lists-page rows-page tables-page codes-page
   first-text e f = rw (e, f)
 
-  pub second-text : a ≡ 2 → r ≡ same v (ascii "http://openlcb.org/schema/cdi/1/3/cdi.xsd") → codeOf a v ≡ cond r 1 8
+  pub second-text : a ≡ 2 → r ≡ same v (ascii "http://openlcb.org/schema/cdi/1/3/cdi.xsd") → codeOf a v ≡ cond r 1 87
   unfolding lists-page rows-page tables-page codes-page
   second-text e f = rw (e, f)
 
-  pub third-text : 1 ≤ a → textual a ≡ true → (a ≡ 1 → ⊥) → (a ≡ 2 → ⊥) → r ≡ isFormatting v → codeOf a v ≡ cond r 1 8
+  pub third-text : 1 ≤ a → textual a ≡ true → (a ≡ 1 → ⊥) → (a ≡ 2 → ⊥) → r ≡ isFormatting v → codeOf a v ≡ cond r 1 87
   unfolding codeOf formCode rows-page tables-page ruleFor
   third-text l e f g h = rw (textual-true a e (more l f g), h)
     where
       more : 1 ≤ a → (a ≡ 1 → ⊥) → (a ≡ 2 → ⊥) → 3 ≤ a
       more l f g = ⊎-elim (λ k. absurd (⊎-elim f (λ n. g (omega arith)) (eq-or-ne a 1))) (λ k. k) (lt-or-le a 3)
 
-  pub good-text : codeOf a v ≡ cond r 1 8 → r ≡ true → 1 ≡ codeOf a v
+  pub good-text : codeOf a v ≡ cond r 1 87 → r ≡ true → 1 ≡ codeOf a v
   good-text e f = sym (e ∙ rw f)
 
-  pub bad-text : codeOf a v ≡ cond r 1 8 → r ≡ false → 8 ≡ codeOf a v
+  pub bad-text : codeOf a v ≡ cond r 1 87 → r ≡ false → 87 ≡ codeOf a v
   bad-text e f = sym (e ∙ rw f)
 
 pub text-amount : (a : ℕ) (v : List ℕ) → textual a ≡ true → 0 ≡ amountOf a v
@@ -149,3 +151,19 @@ text-amount a v e = sym (rw (e, ne-eqb a 7 (neither 7 (omega arith) (omega arith
     neither k l m q = omega (arith, textual-true a e (omega arith))
 
 pub ruleset text-codes = (first-text, second-text, third-text, good-text, bad-text, text-amount, needs)
+
+-- ── a wrong text ──
+
+-- a number's code is no text's
+pub number-code : (a : ℕ) (v : List ℕ) → a ≤ 10 → textual a ≡ false → false ≡ eqb (codeOf a v) 87
+unfolding codeOf formCode
+number-code a v h e = rw (range-for a h e) (sym (ne-eqb (rangeCode (lowAt a) (highAt a) (number v)) 87 (λ z. omega (arith, range-code (lowAt a) (highAt a) (number v) .1, z))))
+
+pub text-code : (a : ℕ) (v : List ℕ) (r : Bool) → codeOf a v ≡ cond r 1 87 → not r ≡ eqb (codeOf a v) 87
+text-code a v r e = rw e (by r)
+  where
+    by : (r : Bool) → not r ≡ eqb (cond r 1 87) 87
+    by true = refl
+    by false = refl
+
+pub ruleset wrong-texts = (number-code, text-code, via, needs)

@@ -17,7 +17,7 @@ use Rattle.names.specs.Names.{attributeNames, attributeNumber}
 use Rattle.names.proofs.Positions.{attribute-kth}
 use Rattle.rules_judge.specs.Tables.{attributeName, tables-page}
 use Rattle.rules_judge.proofs.Below.{Below, at-below}
-use Rattle.tags_values.specs.Codes.{numbered}
+use Rattle.tags_values.specs.Codes.{codeOf, amountOf, numbered, codeIn, amountIn}
 
 NameIs : ℕ → Type 0
 NameIs j = attributeName (j + 1) ≡ getD attributeNames j []
@@ -54,3 +54,21 @@ pub numbered-named : (a : ℕ) (s : List Attribute) → 1 ≤ a → a ≤ 10 →
 unfolding numbered attributeValue
 numbered-named a [] l h = refl
 numbered-named a (x ∷ s) l h = rw (by-number a (x .name) l h, numbered-named a s l h)
+
+-- an attribute in front
+module _ (x : Attribute) (rest : List Attribute) (b : ℕ) where
+  pub front-code : attributeNumber (x .name) ≡ b → codeIn b (x ∷ rest) ≡ codeOf b (x .value)
+  unfolding codeIn numbered
+  front-code e = rw (eq-eqb _ _ e)
+
+  pub behind-code : (attributeNumber (x .name) ≡ b → ⊥) → codeIn b (x ∷ rest) ≡ codeIn b rest
+  unfolding codeIn numbered
+  behind-code e = rw (ne-eqb _ _ e)
+
+  pub front-amount : attributeNumber (x .name) ≡ b → amountIn b (x ∷ rest) ≡ amountOf b (x .value)
+  unfolding amountIn numbered
+  front-amount e = rw (eq-eqb _ _ e)
+
+  pub behind-amount : (attributeNumber (x .name) ≡ b → ⊥) → amountIn b (x ∷ rest) ≡ amountIn b rest
+  unfolding amountIn numbered
+  behind-amount e = rw (ne-eqb _ _ e)

@@ -26,10 +26,10 @@ rangeCode lo hi (some z) = cond (within lo hi z) (cond (ltZ z (pos 0)) 2 1) 10
 
 -- a value against a form: 1 or 2 where it is as it must be, else the number of its fault
 unfoldable pub formCode : Form → List ℕ → ℕ
-formCode (fixed t) v = cond (same v (ascii t)) 1 8
+formCode (fixed t) v = cond (same v (ascii t)) 1 87
 formCode (range lo hi) v = rangeCode lo hi (number v)
 formCode (size ts) v = cond (among (trimmed v) (map ascii ts)) 1 10
-formCode formatting v = cond (isFormatting v) 1 8
+formCode formatting v = cond (isFormatting v) 1 87
 
 -- the faults that a code stands for, at a place
 unfoldable pub codeFaults : ℕ → ℕ → List Fault

@@ -13,6 +13,7 @@ use terms::MOST_TEXT;
 ghost use mathlib.Core.Path.{_≡_};
 ghost use mathlib.Core.Bool.{true, false, cond};
 ghost use Prim.Native.Nat.{_≤_, _<_};
+ghost use lib.Dec.{eqb};
 ghost use lib.IntN.{pos};
 ghost use Rattle.cdi.specs.Numbers.{within};
 ghost use Rattle.numbers.specs.Held.{Judges};
@@ -117,7 +118,7 @@ fn number_held(value: &[u8], a: u8) -> Held
 // Is it the text that it must be?
 fn is_text(value: &[u8], a: u8) -> bool
     requires { ⌜ (1 ≤ a) × (a ≤ 10) × (textual a ≡ true) ⌝ }
-    ensures { λ r. ⌜ codeOf a (now (value .entry)) ≡ cond r 1 8 ⌝ }
+    ensures { λ r. ⌜ codeOf a (now (value .entry)) ≡ cond r 1 87 ⌝ }
 {
     if a == 1 {
         return same(value, b"http://www.w3.org/2001/XMLSchema-instance");
@@ -136,7 +137,21 @@ fn text_held(value: &[u8], a: u8) -> Held
     if is_text(value, a) {
         return Held { code: 1, amount: 0 };
     }
-    Held { code: 8, amount: 0 }
+    Held {
+        code: 87,
+        amount: 0,
+    }
+}
+
+// Is it a text, and not the one that it must be?
+pub fn is_wrong(value: &[u8], a: u8) -> bool
+    requires { ⌜ (1 ≤ a) × (a ≤ 10) ⌝ }
+    ensures { λ r. ⌜ r ≡ eqb (codeOf a (now (value .entry))) 87 ⌝ }
+{
+    if is_textual(a) {
+        return !is_text(value, a);
+    }
+    false
 }
 
 // The value of the attribute of that number.

@@ -11,7 +11,7 @@ use super::describe::{data, description, eventid, float, int, maybe_dress, strin
 use super::markup::{content, segment, Node};
 use super::stats::label;
 use super::tables;
-use super::texts::{accepted, aimed};
+use super::texts::{accepted, aimed, CAUSES};
 
 /// How often a generator tries to reach what it aims at.
 const TRIES: usize = 40;
@@ -257,7 +257,7 @@ fn any_access(random: &mut Random, measure: &Measure) -> Case {
     operation(random, access, &detail, met.size as usize)
 }
 
-/// An access to a text that is refused by 1 to 12.
+/// An access to a text that is refused by one of its own causes.
 fn refused_text(random: &mut Random, measure: &Measure, number: u8) -> Case {
     let text = aimed(random, measure, number);
     let table = if random.chance(50) { Vec::new() } else { accepted(random, measure).1.numbers };
@@ -288,21 +288,21 @@ fn other_table(random: &mut Random, measure: &Measure) -> Case {
     operation(random, access, &detail(&target.planned.segments, met.record), met.size as usize)
 }
 
-/// The outcomes that accesses aim at besides 1 to 12 and 20.
+/// The outcomes that accesses aim at besides those causes and 20.
 const AIMS: [&str; 12] = ["21", "22", "23", "24", "25", "26", "27", "28", "written", "integer", "event", "text"];
 
 /// One access: aimed, or any.
 pub fn access_case(random: &mut Random, measure: &Measure, crowds: bool) -> Case {
     let choice = random.below(100);
-    if choice < 26 {
-        let number = 1 + random.below(12) as u8;
+    if choice < 34 {
+        let number = random.pick(&CAUSES);
         let number = if number == 12 && !crowds { 11 } else { number };
         return refused_text(random, measure, number);
     }
-    if choice < 32 {
+    if choice < 40 {
         return other_table(random, measure);
     }
-    if choice < 60 {
+    if choice < 64 {
         return any_access(random, measure);
     }
     let aim = random.pick(&AIMS);

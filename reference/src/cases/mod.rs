@@ -5,6 +5,7 @@ pub mod accesses;
 pub mod boundaries;
 pub mod damage;
 pub mod describe;
+pub mod faults;
 pub mod leaves;
 pub mod markup;
 pub mod reached;
@@ -35,6 +36,10 @@ pub enum Sort {
 const BOUNDARY_EVERY: u64 = 4;
 /// So many of a hundred random planning cases are of the shapes that a planner may read in a way of their own.
 const SHAPED: usize = 18;
+/// So many of a hundred others have several faults in one tag or element.
+const SEVERAL: usize = 20;
+/// So many of a hundred others are damaged at random.
+const DAMAGED: usize = 30;
 
 pub struct Stream {
     seed: u64,
@@ -137,19 +142,23 @@ fn plan_case(random: &mut Random, small: bool) -> Case {
     if !small && random.chance(SHAPED) {
         return shapes::case(random);
     }
-    if random.chance(40) {
+    if random.chance(SEVERAL) {
+        return Case::Plan { room: random.pick(&[0, 64, 200]), text: texts::with_several(random, measure) };
+    }
+    if random.chance(DAMAGED) {
         let text = texts::damaged(random, measure);
         return Case::Plan { room: random.below(300) as u64, text };
     }
-    let number = random.below(14) as u8;
-    if (1..=12).contains(&number) {
-        let number = if small && number == 12 { 11 } else { number };
+    // Behind the causes: one turn of 13, two of acceptance.
+    let aim = random.below(texts::CAUSES.len() + 3);
+    if let Some(number) = texts::CAUSES.get(aim) {
+        let number = if small && *number == 12 { 11 } else { *number };
         let room = random.pick(&[0, 1, 8, 64, 200]);
         return Case::Plan { room, text: texts::aimed(random, measure, number) };
     }
     let (text, planned) = texts::accepted(random, measure);
     let room = some_room(random, planned.records());
-    if number == 0 || planned.records() == 0 {
+    if aim > texts::CAUSES.len() || planned.records() == 0 {
         return Case::Plan { room, text };
     }
     let needed = 8 * planned.records();

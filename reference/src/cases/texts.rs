@@ -5,12 +5,19 @@ use crate::random::Random;
 use crate::text::FIRST_LINE;
 
 use super::damage::{by_byte, by_token, structure, NAMES, TOKENS, VALUES};
-use super::describe::{description, maybe_dress, Measure};
+use super::describe::{description, maybe_dress, shuffle, Measure};
+use super::faults::{ground, plant_one, several};
 use super::markup::{content, root, segment, Item, Node};
 use super::spellings::{misspell, Rule};
 
 /// How often a generator tries to reach what it aims at.
 const TRIES: usize = 60;
+
+/// The refusals that a text alone may have.
+#[rustfmt::skip]
+pub const CAUSES: [u8; 19] = [
+    1, 2, 3, 4, 5, 6, 7, 81, 82, 83, 84, 85, 86, 87, 88, 9, 10, 11, 12,
+];
 
 #[rustfmt::skip]
 const MALFORMED: [&str; 30] = [
@@ -198,14 +205,15 @@ fn scrambled_int(random: &mut Random) -> Vec<u8> {
     if random.chance(50) {
         int = int.with("size", random.pick(&["1", "1", "2", "4", "8", "3", " 2", "1\n", "+1"]));
     }
-    if random.chance(15) {
+    if random.chance(25) {
         int = int.with(random.pick(&["offset", "a"]), random.pick(&VALUES));
+        shuffle(random, &mut int);
     }
     for _ in 0..random.below(7) {
         let name = random.pick(&["min", "max", "min", "max", "name", "description", "default", "map", "a"]);
         let value = random.pick(&SCRAMBLED);
         let mut child = Node::text(name, if name == "map" { "" } else { value });
-        if random.chance(8) {
+        if random.chance(12) {
             child = child.with("a", "");
         }
         int.push(child);
@@ -308,7 +316,28 @@ fn crowded(random: &mut Random, measure: &Measure) -> Vec<u8> {
     content(random, &node, odd)
 }
 
-/// A text aimed at one refusal of 1 to 12.
+/// A description with a fault of this number, and now and then with some other.
+fn faulty(random: &mut Random, measure: &Measure, number: u8) -> Vec<u8> {
+    let measure = Measure { full: measure.full.max(60), ..*measure };
+    let mut node = ground(random, &measure);
+    plant_one(random, &mut node, number);
+    if random.chance(30) {
+        structure(random, &mut node);
+    }
+    let odd = oddness(random);
+    content(random, &node, odd)
+}
+
+/// A text with several faults against the table of elements in one tag or in one element.
+pub fn with_several(random: &mut Random, measure: &Measure) -> Vec<u8> {
+    let measure = Measure { full: measure.full.max(50), ..*measure };
+    let node = several(random, &measure);
+    let odd = oddness(random);
+    let content = content(random, &node, odd);
+    ended(random, content)
+}
+
+/// A text aimed at one of these refusals.
 pub fn aimed(random: &mut Random, measure: &Measure, number: u8) -> Vec<u8> {
     let mut text = Vec::new();
     for _ in 0..TRIES {
@@ -347,11 +376,12 @@ fn try_aimed(random: &mut Random, measure: &Measure, number: u8) -> Vec<u8> {
         }
         6 => misplaced(random, measure),
         7 => too_deep(random, measure),
-        8..=10 if random.chance(15) => scrambled_int(random),
-        8 => {
+        9 | 10 | 81..=85 if random.chance(15) => scrambled_int(random),
+        81..=88 if random.chance(20) => {
             let changes = 1 + random.below(3);
             restructured(random, measure, changes)
         }
+        81..=88 => faulty(random, measure, number),
         9 if random.chance(40) => respelled(random, measure, Rule::Number),
         10 if random.chance(30) => respelled(random, measure, Rule::Size),
         9 | 10 => revalued(random, measure),

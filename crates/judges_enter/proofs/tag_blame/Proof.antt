@@ -11,6 +11,8 @@ tag-blame-spec =
     (λ c. search tag-faults)
     (λ c. search tag-faults)
     (λ c κs. search needs)
+    (λ c κs. search needs)
     (λ c. search tag-faults)
+    (λ c κs. search needs)
     (λ c κs. search needs)
     (λ c. search tag-faults))

@@ -7,6 +7,7 @@ pub blame-spec : {M : Type 1} → statement M
 blame-spec =
     tie.close (tie.spec
     (λ c. search needs)
+    (λ c κs. search needs)
     (λ c. search needs)
     (λ c. search keying)
     (λ c. search keying))

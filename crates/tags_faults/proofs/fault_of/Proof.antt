@@ -9,6 +9,5 @@ fault-of-spec =
     (λ c κs. search needs)
     (λ c. search fault-cases)
     (λ c κs. search needs)
-    (λ c. search fault-cases)
-    (λ c. search fault-cases)
+    (λ c. search needs)
     (λ c. search fault-cases))

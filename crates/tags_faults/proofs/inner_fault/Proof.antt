@@ -22,7 +22,5 @@ inner-fault-spec =
     (λ c. search (by-rules, by-last, needs))
     (λ c. search needs)
     (λ c κs. search needs)
-    (λ c. search needs)
-    (λ c κs. search needs)
     (λ c κs. search needs)
     (λ c. search (by-rules, by-last, needs)))

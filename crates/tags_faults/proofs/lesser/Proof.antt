@@ -1,13 +1,16 @@
-use Rattle.scan.proofs.Tests.{tests}
-use Rattle.tags_faults.specs.Told.{lesserOf}
+use borrow.Author.Needs.{needs}
+use Rattle.tags_faults.proofs.Ruled.{firsts}
 use Rattle.tags_faults.proofs.lesser.Statement.{statement}
 use Rattle.tags_faults.proofs.lesser.Tie as tie
 
 pub lesser-spec : {M : Type 1} → statement M
-unfolding lesserOf
 lesser-spec =
     tie.close (tie.spec
-    (λ c. search tests)
-    (λ c. search tests)
-    (λ c. search tests)
-    (λ c. search tests))
+    (λ c. search firsts)
+    (λ c. search firsts)
+    (λ c κs. search needs)
+    (λ c κs. search needs)
+    (λ c κs. search needs)
+    (λ c κs. search needs)
+    (λ c. search firsts)
+    (λ c. search firsts))

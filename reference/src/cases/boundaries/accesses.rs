@@ -247,7 +247,18 @@ fn windows() -> Vec<Case> {
     cases
 }
 
-/// Texts refused by 1 to 12, tables other than the planned one, and several causes at once.
+/// What stands in a segment and is refused by one of 82 to 88.
+const IN_SEGMENT: [&str; 7] = [
+    "<int/><name/>",
+    "<name/><name/>",
+    "<int><map><relation/></map></int>",
+    "<int a=''/>",
+    "<string/>",
+    "<float size='2' formatting=''/>",
+    "<int/> x",
+];
+
+/// Texts refused by each of their own causes, tables other than the planned one, and several causes at once.
 fn orders() -> Vec<Case> {
     let mut cases = Vec::new();
     let access = access_to(&copies(2, Node::new("int").with("size", "2")), 1);
@@ -266,7 +277,8 @@ fn orders() -> Vec<Case> {
         plain(&cdi_with(Node::new("int").with("offset", -1))),
         plain(&cdi_with(copies(1_000_001, Node::new("int")))),
     ];
-    for text in refused {
+    let within = |inside: &&str| raw_text(&format!("{root}<segment space='1'>{inside}</segment></cdi>"));
+    for text in refused.into_iter().chain(IN_SEGMENT.iter().map(within)) {
         cases.extend(every_operation(&Access { text, ..access.clone() }));
     }
     for index in 0..access.table.len() {

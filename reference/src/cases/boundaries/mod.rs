@@ -1,6 +1,7 @@
-//! Fixed cases at every boundary of document 01 and of request R-1, cycled through by every stream.
+//! Fixed cases at every boundary of document 01 and of requests, cycled through by every stream.
 
 mod accesses;
+mod causes;
 mod plans;
 mod spellings;
 mod tables;

@@ -3,7 +3,7 @@
 use super::super::damage::TOKENS;
 use super::super::markup::{plain, root, segment, Node};
 use super::super::texts::{nested, nested_groups};
-use super::{cdi, cdi_with, content_of, copies, int_with, map_of, raw_text, root_tag, spellings};
+use super::{causes, cdi, cdi_with, content_of, copies, int_with, map_of, raw_text, root_tag, spellings};
 use crate::answer::Case;
 use crate::rules::{SCHEMA_INSTANCE, SCHEMA_LOCATION};
 use crate::text::FIRST_LINE;
@@ -479,6 +479,7 @@ pub fn of_plan() -> Vec<Case> {
         bounds(),
         number_texts(),
         spellings::of_plan(),
+        causes::of_plan(),
         markup(),
         elements(),
         counts(),

@@ -1,7 +1,10 @@
-//! How often a stream of planning cases reaches what a planner may read in a way of its own, and one of writes and reads what turns on blanks and
-//! signs, by the independent program's reading of each text. A case counts once for each thing that it shows.
+//! How often a stream of planning cases reaches what a planner may read in a way of its own and each cause of 81 to 88, one and several at once, and
+//! one of writes and reads what turns on blanks and signs, by the independent program's reading of each text. A case counts once for each thing
+//! that it shows.
 
 pub mod accesses;
+pub mod causes;
+pub mod faults;
 pub mod leaves;
 pub mod numbers;
 pub mod rows;
@@ -46,7 +49,7 @@ impl<'a> Read<'a> {
 
 /// All that is counted of planning, in the order in which it is told.
 pub fn labels() -> Vec<String> {
-    [rows::labels(), tags::labels(), leaves::labels(), numbers::labels()].concat()
+    [rows::labels(), tags::labels(), leaves::labels(), numbers::labels(), causes::labels(), faults::labels()].concat()
 }
 
 /// How many cases show each thing.
@@ -85,6 +88,8 @@ fn planning(room: u64, text: &[u8]) -> Vec<String> {
         met.extend(tags::met(&read));
         met.extend(leaves::met(&read));
         met.extend(numbers::met(&read));
+        met.extend(causes::met(&read));
+        met.extend(faults::met(&read));
     }
     met
 }

@@ -24,9 +24,12 @@ const FORMS: [(&str, usize); 10] = [
     ("\n  <int size='2' offset='1'>\n    <min>3</min>\n  </int>", 1),
 ];
 
-/// Faults of stages 8 to 12, each in an element of its own.
-const FAULTS: [&str; 5] = [
+/// Faults against the table of elements and of the walk, each in an element of its own.
+const FAULTS: [&str; 8] = [
     "<a/>",
+    "<name/>",
+    "<int a=''/>",
+    "x",
     "<int><min>x</min></int>",
     "<int size='3'/>",
     "<int offset='-2147483648'/>",
