@@ -2,9 +2,10 @@
 use mathlib.Core.Path.{_≡_, refl, sym, ap, _∙_}
 use mathlib.Core.List.{List, []}
 use mathlib.Core.Bool.{Bool, true, false, cond, not, _&&_, _||_}
+use mathlib.Core.Option.{Option}
 use Prim.Native.Nat.{ℕ, _+_, _≤_, _<_}
 use Rattle.cdi.specs.Lists.{isEmpty, lists-page}
-use Rattle.cdi.specs.Faults.{least}
+use Rattle.cdi.specs.Faults.{Fault, least}
 use Rattle.cdi.specs.Pieces.{Attribute, text, pieces-page}
 use Rattle.cdi.specs.Numbers.{number, numbers-page}
 use Rattle.cdi.specs.Rules.{attributeFaults}
@@ -17,7 +18,7 @@ use Rattle.rules_judge.specs.Tables.{entryAt, intSize}
 use Rattle.rules_judge.specs.Parts.{isNumeric}
 use Rattle.judges_state.specs.declared.Judge.{Judge}
 use Rattle.judges_state.specs.Decoded.{saidOf, judgeOf}
-use Rattle.judges_state.specs.Steps.{faultsOf, enteredBy, leftBy, leafBy}
+use Rattle.judges_state.specs.Steps.{enteredBy, leftBy, leafBy}
 use Rattle.judges_state.proofs.Saying.{is-value}
 use Rattle.judges_model.proofs.Entered.{entered}
 use Rattle.judges_model.proofs.Left.{left}
@@ -30,10 +31,10 @@ module _ (j : Judge) (p : ℕ) (n : List ℕ) (s : List Attribute) {child entry 
   unfolding judgeOf
   there = ee
 
-  pub child-entered : (r : Judge) (fault wrong : ℕ) → Behind (p + 1) s → least (attributeFaults p (rowAt child) s) ≡ least (faultsOf p fault wrong)
-      → judgeOf r ≡ enteredBy (judgeOf j) p child entry fault wrong
+  pub child-entered : (r : Judge) (o : Option Fault) → Behind (p + 1) s → least (attributeFaults p (rowAt child) s) ≡ o
+      → judgeOf r ≡ enteredBy (judgeOf j) p child entry o
       → judgeOf r ≡ enterOf (judgeOf j) p n s
-  child-entered r fault wrong b e f = f ∙ entered (judgeOf j) p n s b fault wrong ec there e
+  child-entered r o b e f = f ∙ entered (judgeOf j) p n s b o ec there e
 
   -- an int has that size; of other elements none is asked
   pub child-left-where : (i r : Judge) {bare : Bool} {size : ℕ} → bare ≡ isEmpty s → (child ≡ 6 → size ≡ intSize s) → judgeOf r ≡ leftBy (judgeOf j) p child entry bare size (judgeOf i)

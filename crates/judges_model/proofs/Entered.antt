@@ -26,6 +26,7 @@ use Rattle.rules_judge.specs.Tables.{entryAt, turnNumber}
 use Rattle.rules_judge.proofs.Blaming.{blamed-none, blamed-append}
 use Rattle.rules_judge.proofs.Tabled.{no-entry}
 use Rattle.rules.proofs.Passing.{foreign-entered, unknown-entered, known-entered}
+use Rattle.judges_state.proofs.Blaming.{one-least}
 use Rattle.judges_state.specs.Steps.{faultsOf, rowIn, tagFaults, turnOf, enteredBy}
 
 -- ── the faults of attributes come behind those of order and count ──
@@ -88,7 +89,7 @@ or-false : (t : Bool) → (t || false) ≡ t
 or-false true = refl
 or-false false = refl
 
-module _ (j : Judge) (p : ℕ) (n : List ℕ) (s : List Attribute) (w : Named.Behind (p + 1) s) (number wrong : ℕ) {child entry : ℕ} (ec : child ≡ elementNumber n) (ee : entry ≡ entryAt (j .row) child) where
+module _ (j : Judge) (p : ℕ) (n : List ℕ) (s : List Attribute) (w : Named.Behind (p + 1) s) (o : Option Fault) {child entry : ℕ} (ec : child ≡ elementNumber n) (ee : entry ≡ entryAt (j .row) child) where
   low : rank (turnNumber (j .last) entry) ≤ 10
   unfolding turnNumber rank between
   low = by (ltb entry (j .last))
@@ -98,29 +99,29 @@ module _ (j : Judge) (p : ℕ) (n : List ℕ) (s : List Attribute) (w : Named.Be
       by false = omega arith
 
   -- the faults of a tag in its turn, or not
-  told : (t : Bool) → least (attributeFaults p (rowAt child) s) ≡ least (faultsOf p number wrong)
-      → blamed (j .least) (cond t (faultsOf p number wrong) (fault (turnNumber (j .last) entry) p ∷ []))
+  told : (t : Bool) → least (attributeFaults p (rowAt child) s) ≡ o
+      → blamed (j .least) (cond t (faultsOf o) (fault (turnNumber (j .last) entry) p ∷ []))
       ≡ blamed (blamed (j .least) (unless t (fault (turnNumber (j .last) entry) p))) (attributeFaults p (rowAt child) s)
   unfolding unless least lesser Behind
-  told true h = blamed-alike (j .least) (faultsOf p number wrong) (attributeFaults p (rowAt child) s) (sym h) ∙ ap (λ (l : Least). blamed l (attributeFaults p (rowAt child) s)) (blamed-none (j .least))
+  told true h = blamed-alike (j .least) (faultsOf o) (attributeFaults p (rowAt child) s) (one-least o ∙ sym h) ∙ ap (λ (l : Least). blamed l (attributeFaults p (rowAt child) s)) (blamed-none (j .least))
   told false h =
       let f = fault (turnNumber (j .last) entry) p in
       blamed-alike (j .least) (f ∷ []) (f ∷ attributeFaults p (rowAt child) s) (sym (attributes-behind (turnNumber (j .last) entry) p low (rowAt child) s w))
       ∙ sym (blamed-append (j .least) (f ∷ []) (attributeFaults p (rowAt child) s))
 
-  foreign : j .row ≡ 24 → enteredBy j p child entry number wrong ≡ enterOf j p n s
+  foreign : j .row ≡ 24 → enteredBy j p child entry o ≡ enterOf j p n s
   unfolding enteredBy tagFaults rowIn
   foreign e = foreign-entered j p n s e (rw (eq-eqb entry 0 (ee ∙ sym (no-entry (j .row) (omega arith) child)), eq-eqb (j .row) 24 e, ← blamed-none (j .least), or-false (j .numeric)))
 
   module _ (f : j .row ≡ 24 → ⊥) where
-    unknown : entry ≡ 0 → enteredBy j p child entry number wrong ≡ enterOf j p n s
+    unknown : entry ≡ 0 → enteredBy j p child entry o ≡ enterOf j p n s
     unfolding enteredBy tagFaults rowIn
     unknown z = unknown-entered j p n s f ec ee z refl (rw (eq-eqb entry 0 z, ne-eqb (j .row) 24 f, or-false (j .numeric)))
 
-    known-child : (entry ≡ 0 → ⊥) → least (attributeFaults p (rowAt child) s) ≡ least (faultsOf p number wrong) → enteredBy j p child entry number wrong ≡ enterOf j p n s
+    known-child : (entry ≡ 0 → ⊥) → least (attributeFaults p (rowAt child) s) ≡ o → enteredBy j p child entry o ≡ enterOf j p n s
     unfolding enteredBy tagFaults rowIn turnOf
     known-child z h = known-entered j p n s f ec ee z refl refl refl refl (rw (ne-eqb entry 0 z, told (turnOf j entry) h))
 
-  -- Entering a child by its number and entry, where the least of its attributes' faults has that number, is entering it by its name.
-  pub entered : least (attributeFaults p (rowAt child) s) ≡ least (faultsOf p number wrong) → enteredBy j p child entry number wrong ≡ enterOf j p n s
+  -- Entering a child by its number and entry, where that is the least of its attributes' faults, is entering it by its name.
+  pub entered : least (attributeFaults p (rowAt child) s) ≡ o → enteredBy j p child entry o ≡ enterOf j p n s
   entered h = ⊎-elim foreign (λ f. ⊎-elim (unknown f) (λ z. known-child f z h) (eq-or-ne entry 0)) (eq-or-ne (j .row) 24)

@@ -1,6 +1,7 @@
 -- A plain leaf by its number is an element that is entered, holds a run of text or nothing, and is left.
 use mathlib.Core.Path.{_≡_, refl, sym, ap, _∙_}
 use mathlib.Core.List.{List, []}
+use mathlib.Core.Option.{none}
 use mathlib.Core.Bool.{Bool, true, false, cond, not, _&&_, _||_}
 use Prim.Native.Nat.{ℕ, _≤_, _<_, max}
 use native.Mathlib.Omega.{arith}
@@ -54,8 +55,8 @@ module _ (j : Judge) (p : ℕ) (n : List ℕ) {child entry : ℕ} (ec : child �
 
   -- nothing is judged by its tag
   entered-leaf : enterOf j p n [] ≡ fresh (j .least) child (j .numeric)
-  unfolding enteredBy tagFaults rowIn faultsOf Behind
-  entered-leaf = sym (entered j p n [] tt 0 0 ec ee (ap least no-faults))
+  unfolding enteredBy tagFaults rowIn faultsOf Behind least
+  entered-leaf = sym (entered j p n [] tt none ec ee (ap least no-faults))
       ∙ rw (ne-eqb entry 0 (λ z. omega arith), in-turn, ← blamed-none (j .least), ne-eqb child 6 (λ z. omega arith), or-false (j .numeric))
 
   -- nor by its text

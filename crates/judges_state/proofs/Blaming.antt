@@ -8,6 +8,7 @@ use Rattle.keys.specs.Keys.{faultIn}
 use Rattle.rules_judge.specs.Judging.{asFault, toLeast, blamed}
 use Rattle.rules_judge.proofs.Blaming.{blamed-none}
 use Rattle.judges_state.specs.Decoded.{leastIn}
+use Rattle.judges_state.specs.Steps.{faultsOf}
 
 -- what the key of a fault says is what the judge keeps
 back : (o : Option Fault) → asFault (toLeast o) ≡ o
@@ -28,3 +29,9 @@ key-blamed r l n p fs f e = key-blamed-with r l (fault n p ∷ []) e ∙ ap (bla
 -- none
 pub key-kept : (l : ℕ) (fs : List Fault) → fs ≡ [] → leastIn l ≡ blamed (leastIn l) fs
 key-kept l fs e = blamed-none (leastIn l) ∙ ap (blamed (leastIn l)) (sym e)
+
+-- the least of one fault or none
+pub one-least : (o : Option Fault) → least (faultsOf o) ≡ o
+unfolding faultsOf least lesser
+one-least none = refl
+one-least (some f) = refl

@@ -1,6 +1,7 @@
 -- The steps of the judge by the numbers of elements: what the code answers for a tag, a child and a plain leaf.
 use mathlib.Core.List.{List, [], _∷_, _++_}
 use mathlib.Core.Bool.{Bool, true, false, cond, not, _&&_, _||_}
+use mathlib.Core.Option.{Option, none, some}
 use Prim.Native.Nat.{ℕ}
 use lib.Dec.{eqb}
 use Rattle.cdi.specs.Faults.{Fault, fault}
@@ -15,28 +16,29 @@ use Rattle.rules_judge.specs.Parts.{isLimit, missingBy, numberBy, intBy, leftOf
 
 -- ── entering a child ──
 
--- the fault of that number, or none where it is 0: at `wrong`, the place of an attribute's name, or at p where that is 0
-unfoldable pub faultsOf : ℕ → ℕ → ℕ → List Fault
-faultsOf p n wrong = cond (eqb n 0) [] (fault n (cond (eqb wrong 0) p wrong) ∷ [])
+-- one fault or none
+unfoldable pub faultsOf : Option Fault → List Fault
+faultsOf none = []
+faultsOf (some f) = f ∷ []
 
 -- the number of the row inside a child: a child without an entry isn't judged
 unfoldable pub rowIn : ℕ → ℕ → ℕ
 rowIn entry child = cond (eqb entry 0) 24 child
 
 -- the faults of a tag behind the last entry: none where nothing is judged; it has no entry; it doesn't stand in its turn; else the least of its
--- attributes' faults, by its number and place
-unfoldable pub tagFaults : ℕ → ℕ → ℕ → ℕ → Bool → ℕ → ℕ → List Fault
-tagFaults p row last entry turn number wrong =
-    cond (eqb entry 0) (cond (eqb row 24) [] (unknownElement p ∷ [])) (cond turn (faultsOf p number wrong) (fault (turnNumber last entry) p ∷ []))
+-- attributes' faults
+unfoldable pub tagFaults : ℕ → ℕ → ℕ → ℕ → Bool → Option Fault → List Fault
+tagFaults p row last entry turn told =
+    cond (eqb entry 0) (cond (eqb row 24) [] (unknownElement p ∷ [])) (cond turn (faultsOf told) (fault (turnNumber last entry) p ∷ []))
 
 -- a child of that entry stands in its turn
 unfoldable pub turnOf : Judge → ℕ → Bool
 turnOf j entry = inTurn (j .last) entry (eqb entry (manyAt (j .row)))
 
 -- the judge inside the child of that number and entry
-unfoldable pub enteredBy : Judge → ℕ → ℕ → ℕ → ℕ → ℕ → Judge
-enteredBy j p child entry number wrong =
-    fresh (blamed (j .least) (tagFaults p (j .row) (j .last) entry (turnOf j entry) number wrong)) (rowIn entry child) (j .numeric || eqb (rowIn entry child) 6)
+unfoldable pub enteredBy : Judge → ℕ → ℕ → ℕ → Option Fault → Judge
+enteredBy j p child entry told =
+    fresh (blamed (j .least) (tagFaults p (j .row) (j .last) entry (turnOf j entry) told)) (rowIn entry child) (j .numeric || eqb (rowIn entry child) 6)
 
 -- ── comments, instructions and references ──
 

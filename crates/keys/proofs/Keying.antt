@@ -1,17 +1,19 @@
 -- The order of keys is that of faults: the smaller place, then the number of the smaller rank.
-use mathlib.Core.Path.{_≡_, refl, sym, _∙_}
+use mathlib.Core.Path.{_≡_, refl, sym, ap, _∙_}
 use mathlib.Core.Bool.{Bool, true, false, cond, _||_, _&&_}
 use mathlib.Core.Option.{none, some}
 use mathlib.Core.Logic.{⊎-elim}
 use Prim.Native.Nat.{ℕ, _+_, _*_, _-_, _/_, _%_, _≤_, _<_, max}
 use native.Mathlib.Omega.{arith}
+use mir.Syntax.{w64}
+use mir.Val.{Fits}
 use borrow.Author.Needs.{needs}
 use borrow.Author.Tests.{ltb-true, ltb-false, le-ltb, le-leb, lt-leb, eq-eqb, ne-eqb}
 use lib.Dec.{eqb, ltb, leb}
 use Rattle.cdi.specs.Lists.{between}
-use Rattle.cdi.specs.Faults.{fault, unless, rank, before, lesser, least}
+use Rattle.cdi.specs.Faults.{Fault, fault, unless, rank, before, lesser, least}
 use Rattle.cdi.proofs.Least.{same-rank, lesser-none}
-use Rattle.scan.proofs.Tests.{lt-or-le}
+use Rattle.scan.proofs.Tests.{lt-or-le, eq-or-ne}
 use Rattle.keys.specs.Keys.{numberOf, faultIn}
 
 -- ── ranks ──
@@ -53,7 +55,7 @@ module _ (r : ℕ) where
   high-number h = rw (le-leb 8 r (omega arith), lt-leb r 15 (omega arith), le-leb 16 r (omega arith), lt-leb r 88 h)
 
   -- a rank's number has that rank
-  rank-back : rank (numberOf r) ≡ r
+  pub rank-back : rank (numberOf r) ≡ r
   rank-back = ⊎-elim (λ (a : r < 8). rw (← low-number a) (sym (low-rank r a)))
       (λ (a : 8 ≤ r). ⊎-elim (λ (b : r < 16). rw (← split-number a b) (sym (split-rank (r + 73) (omega arith) (omega arith)) ∙ omega arith))
       (λ (b : 16 ≤ r). ⊎-elim (λ (c : r < 89). rw (← moved-number b c) (sym (moved-rank (r - 8) (omega arith) (omega arith)) ∙ omega arith))
@@ -65,9 +67,19 @@ pub ruleset numbering = (low-number, split-number, moved-number, high-number, ne
 number-back : (n : ℕ) → numberOf (rank n) ≡ n
 number-back n = same-rank (numberOf (rank n)) n (rank-back (rank n))
 
+-- ── what a key says ──
+
+pub no-fault : (k : ℕ) → k ≡ 0xFFFF_FFFF_FFFF_FFFF → faultIn k ≡ none
+unfolding faultIn
+no-fault k e = rw (eq-eqb k 0xFFFF_FFFF_FFFF_FFFF e)
+
+pub a-fault : (k : ℕ) → (k ≡ 0xFFFF_FFFF_FFFF_FFFF → ⊥) → faultIn k ≡ some (fault (numberOf (k % 128)) (k / 128))
+unfolding faultIn
+a-fault k e = rw (ne-eqb k 0xFFFF_FFFF_FFFF_FFFF e)
+
 -- ── keys ──
 
-module _ (l n p : ℕ) {q : ℕ} (e : q ≡ rank n) (small : n < 128) (bound : q ≤ max n 88) (k : p ≤ 65535) where
+module _ (n p : ℕ) {q : ℕ} (e : q ≡ rank n) (small : n < 128) (bound : q ≤ max n 88) (k : p ≤ 65535) where
   h : q < 128
   h = omega arith
 
@@ -78,45 +90,62 @@ module _ (l n p : ℕ) {q : ℕ} (e : q ≡ rank n) (small : n < 128) (bound : q
   rank-in = omega (arith, h)
 
   -- the key of a fault is that fault
-  this : faultIn (p * 128 + q) ≡ some (fault n p)
+  pub this : faultIn (p * 128 + q) ≡ some (fault n p)
   unfolding faultIn
-  this = rw (ne-eqb (p * 128 + q) 0xFFFF_FFFF_FFFF_FFFF (λ z. omega arith), place-of, rank-in, e, number-back n)
+  this = rw (ne-eqb (p * 128 + q) 0xFFFF_FFFF_FFFF_FFFF (λ z. omega (arith, h)), place-of, rank-in, e, number-back n)
 
-  later : p * 128 + q < l → before (fault (numberOf (l % 128)) (l / 128)) (fault n p) ≡ false
+pub ruleset keying = (this, needs)
+
+module _ (l k : ℕ) where
+  -- the fault of a key that isn't none
+  abbrev in-key : ℕ → Fault
+  in-key m = fault (numberOf (m % 128)) (m / 128)
+
+  later : k < l → before (in-key l) (in-key k) ≡ false
   unfolding before
-  later z = rw (rank-back (l % 128), ← e) (by (ltb p (l / 128)) refl)
+  later z = rw (rank-back (l % 128), rank-back (k % 128)) (by (ltb (k / 128) (l / 128)) refl)
     where
-      by : (t : Bool) → ltb p (l / 128) ≡ t → (ltb (l / 128) p || (eqb (l / 128) p && leb (l % 128) q)) ≡ false
-      by true e = let g : p < l / 128 = ltb-true p (l / 128) e in rw (le-ltb (l / 128) p (omega (arith, g)), ne-eqb (l / 128) p (λ q. omega (arith, g)))
+      by : (t : Bool) → ltb (k / 128) (l / 128) ≡ t → (ltb (l / 128) (k / 128) || (eqb (l / 128) (k / 128) && leb (l % 128) (k % 128))) ≡ false
+      by true e = let g : k / 128 < l / 128 = ltb-true (k / 128) (l / 128) e in rw (le-ltb (l / 128) (k / 128) (omega (arith, g)), ne-eqb (l / 128) (k / 128) (λ q. omega (arith, g)))
       by false e =
-          let g : l / 128 ≤ p = ltb-false p (l / 128) e in
-          let o : l / 128 ≡ p = omega (arith, g) in
-          rw (le-ltb (l / 128) p (omega (arith, o)), eq-eqb (l / 128) p o, lt-leb (l % 128) q (omega (arith, o)))
+          let g : l / 128 ≤ k / 128 = ltb-false (k / 128) (l / 128) e in
+          let o : l / 128 ≡ k / 128 = omega (arith, g) in
+          rw (le-ltb (l / 128) (k / 128) (omega (arith, o)), eq-eqb (l / 128) (k / 128) o, lt-leb (l % 128) (k % 128) (omega (arith, o)))
 
-  earlier : l ≤ p * 128 + q → before (fault (numberOf (l % 128)) (l / 128)) (fault n p) ≡ true
+  earlier : l ≤ k → before (in-key l) (in-key k) ≡ true
   unfolding before
-  earlier z = rw (rank-back (l % 128), ← e) (by (ltb (l / 128) p) refl)
+  earlier z = rw (rank-back (l % 128), rank-back (k % 128)) (by (ltb (l / 128) (k / 128)) refl)
     where
-      by : (t : Bool) → ltb (l / 128) p ≡ t → (t || (eqb (l / 128) p && leb (l % 128) q)) ≡ true
+      by : (t : Bool) → ltb (l / 128) (k / 128) ≡ t → (t || (eqb (l / 128) (k / 128) && leb (l % 128) (k % 128))) ≡ true
       by true e = refl
       by false e =
-          let g : p ≤ l / 128 = ltb-false (l / 128) p e in
-          let o : l / 128 ≡ p = omega (arith, g) in
-          rw (eq-eqb (l / 128) p o, le-leb (l % 128) q (omega (arith, o)))
+          let g : k / 128 ≤ l / 128 = ltb-false (l / 128) (k / 128) e in
+          let o : l / 128 ≡ k / 128 = omega (arith, g) in
+          rw (eq-eqb (l / 128) (k / 128) o, le-leb (l % 128) (k % 128) (omega (arith, o)))
 
-  pub replaced : p * 128 + q < l → faultIn (p * 128 + q) ≡ lesser (faultIn l) (some (fault n p))
+  pub replaced : Fits w64 l → k < l → faultIn k ≡ lesser (faultIn l) (faultIn k)
   unfolding faultIn lesser
-  replaced z = this ∙ by (eqb l 0xFFFF_FFFF_FFFF_FFFF)
+  replaced b z = rw (ne-eqb k 0xFFFF_FFFF_FFFF_FFFF (λ e. omega (arith, e, b, z))) (by (eqb l 0xFFFF_FFFF_FFFF_FFFF))
     where
-      by : (t : Bool) → some (fault n p) ≡ lesser (cond t none (some (fault (numberOf (l % 128)) (l / 128)))) (some (fault n p))
+      by : (t : Bool) → some (in-key k) ≡ lesser (cond t none (some (in-key l))) (some (in-key k))
       by true = refl
       by false = rw (later z)
 
-  pub stays : l ≤ p * 128 + q → faultIn l ≡ lesser (faultIn l) (some (fault n p))
-  unfolding faultIn lesser
-  stays z = rw (ne-eqb l 0xFFFF_FFFF_FFFF_FFFF (λ q. omega arith), earlier z)
+  module _ (b : Fits w64 k) where
+    pub stays : l ≤ k → faultIn l ≡ lesser (faultIn l) (faultIn k)
+    stays z = ⊎-elim
+        (λ (e : k ≡ 0xFFFF_FFFF_FFFF_FFFF). rw (no-fault k e) (sym (lesser-none (faultIn l))))
+        (λ (e : k ≡ 0xFFFF_FFFF_FFFF_FFFF → ⊥). rw (a-fault k e, a-fault l (λ q. e (omega arith))) (both e))
+        (eq-or-ne k 0xFFFF_FFFF_FFFF_FFFF)
+      where
+        both : (k ≡ 0xFFFF_FFFF_FFFF_FFFF → ⊥) → some (in-key l) ≡ lesser (some (in-key l)) (some (in-key k))
+        both e = unfold lesser in rw (earlier z)
 
-pub ruleset keying = (replaced, stays, needs)
+-- one fault more
+pub with-key : (l n p k r : ℕ) → faultIn k ≡ some (fault n p) → faultIn r ≡ lesser (faultIn l) (faultIn k) → faultIn r ≡ lesser (faultIn l) (some (fault n p))
+with-key l n p k r e f = f ∙ ap (lesser (faultIn l)) e
+
+pub ruleset with-keys = (with-key, needs)
 
 module _ (l n p : ℕ) {good : Bool} where
   pub passes : good ≡ true → faultIn l ≡ lesser (faultIn l) (least (unless good (fault n p)))
@@ -128,13 +157,3 @@ module _ (l n p : ℕ) {good : Bool} where
   fails r e f = f ∙ rw (e, lesser-none)
 
 pub ruleset unlesses = (passes, fails, needs)
-
--- ── what a key says ──
-
-pub no-fault : (k : ℕ) → k ≡ 0xFFFF_FFFF_FFFF_FFFF → faultIn k ≡ none
-unfolding faultIn
-no-fault k e = rw (eq-eqb k 0xFFFF_FFFF_FFFF_FFFF e)
-
-pub a-fault : (k : ℕ) → (k ≡ 0xFFFF_FFFF_FFFF_FFFF → ⊥) → faultIn k ≡ some (fault (numberOf (k % 128)) (k / 128))
-unfolding faultIn
-a-fault k e = rw (ne-eqb k 0xFFFF_FFFF_FFFF_FFFF e)

@@ -42,16 +42,30 @@ pub fn number_of(rank: usize) -> usize
     rank
 }
 
-// The least with this fault more: the smaller place, and at one place the number of the smaller rank.
-pub fn blame(least: usize, number: usize, place: usize) -> usize
+// The key of a fault.
+pub fn key_of(number: usize, place: usize) -> usize
     requires { ⌜ (number < 128) × (place ≤ 65535) ⌝ }
-    ensures { λ r. ⌜ faultIn r ≡ lesser (faultIn least) (some (fault number place)) ⌝ }
+    ensures { λ r. ⌜ faultIn r ≡ some (fault number place) ⌝ }
 {
-    let key = place * 128 + rank_of(number);
+    place * 128 + rank_of(number)
+}
+
+// The key of the lesser of two faults: the smaller place, and at one place the number of the smaller rank.
+pub fn first_of(least: usize, key: usize) -> usize
+    ensures { λ r. ⌜ faultIn r ≡ lesser (faultIn least) (faultIn key) ⌝ }
+{
     if key < least {
         return key;
     }
     least
+}
+
+// The least with this fault more.
+pub fn blame(least: usize, number: usize, place: usize) -> usize
+    requires { ⌜ (number < 128) × (place ≤ 65535) ⌝ }
+    ensures { λ r. ⌜ faultIn r ≡ lesser (faultIn least) (some (fault number place)) ⌝ }
+{
+    first_of(least, key_of(number, place))
 }
 
 // The least with this fault more, where the test has failed.

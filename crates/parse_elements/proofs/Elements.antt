@@ -61,7 +61,7 @@ module _ (s : List ℕ) (left at b : ℕ) (st : State) (t : List ℤ) {n : ℕ} 
   pub no-name : (x : ℕ) (y : State) → n ≡ at + 1 → ElementReads s left at b (stateOf st) t t (record { number = 4; place = at; begun = x; state = y })
   no-name x y z = malformed-here s left at b (stateOf st) t t x y (unnamed s at p v z)
 
-  module _ {e : ℕ} (tag : Tag) (z : n ≡ at + 1 → ⊥) (r : Reads s n e tag) where
+  module _ {e : ℕ} (tag : Tag) (z : n ≡ at + 1 → ⊥) (r : Reads s at n e tag) where
     pub no-tag : (x : ℕ) (y : State) → tag .end ≡ 0 → ElementReads s left at b (stateOf st) t t (record { number = 4; place = at; begun = x; state = y })
     no-tag x y q = malformed-here s left at b (stateOf st) t t x y (bad-tag s at p v z r q)
 
@@ -124,7 +124,7 @@ name-high v = v .high
 pub name-there : {s : List ℕ} {at n : ℕ} → Name s at n → (n ≡ at → ⊥) → at < n
 name-there v z = omega (arith, v .low)
 
-pub tag-high : {s : List ℕ} {n e : ℕ} {tag : Tag} → Reads s n e tag → tag .end ≤ length s
+pub tag-high : {s : List ℕ} {at n e : ℕ} {tag : Tag} → Reads s at n e tag → tag .end ≤ length s
 tag-high r = r .high
 
 pub wide-number : {n m k : ℕ} → n ≡ m → m ≡ k → n ≡ k

@@ -16,7 +16,7 @@ use Rattle.marks_cuts.proofs.Tags.{unended, doubled, tagged}
 use Rattle.tags.specs.Reads.{closeOf, Reads}
 use Rattle.tags.specs.declared.Tag.{Tag}
 
-module _ (s : List ℕ) (at : ℕ) {n e : ℕ} {tag : Tag} (p : sortAt (drop at s) ≡ 0) (v : Name s (at + 1) n) (z : n ≡ at + 1 → ⊥) (r : Reads s n e tag) where
+module _ (s : List ℕ) (at : ℕ) {n e : ℕ} {tag : Tag} (p : sortAt (drop at s) ≡ 0) (v : Name s (at + 1) n) (z : n ≡ at + 1 → ⊥) (r : Reads s at n e tag) where
   -- a tag that is malformed
   pub bad-tag : tag .end ≡ 0 → Stands s at (badCut s at)
   unfolding closeOf

@@ -86,7 +86,7 @@ fn element(s: &[u8], at: usize, left: usize, begun: usize, st: State, rows: &mut
             state: with_leaf(at, child, entry, leaf.said, leaf.magnitude, st),
         };
     }
-    let tag = start_tag(s, behind, name.number);
+    let tag = start_tag(s, at, behind, name.number);
     if tag.end == 0 {
         return Reached {
             number: 4,

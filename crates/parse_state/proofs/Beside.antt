@@ -7,8 +7,7 @@ use native.Mathlib.Omega.{arith}
 use borrow.Author.Needs.{needs}
 use lib.Dec.{eqb}
 use lib.IntN.{ℤ}
-use lib.ListN.{length, drop}
-use Rattle.cdi.specs.Faults.{least}
+use lib.ListN.{drop}
 use Rattle.cdi.specs.Pieces.{Piece, attributes}
 use Rattle.cdi.proofs.Named.{attributes-behind}
 use Rattle.names.specs.Names.{elementNumber}
@@ -17,8 +16,9 @@ use Rattle.rules_judge.specs.Tables.{entryAt}
 use Rattle.rules_judge.specs.declared.Least.the-variants.{Nothing}
 use Rattle.rules_judge.specs.declared.Said.{Said}
 use Rattle.rules_judge.specs.declared.Judge.{Judge as Known}
+use Rattle.keys.specs.Keys.{faultIn}
 use Rattle.judges_state.specs.Decoded.{judgeOf, Placed}
-use Rattle.judges_state.specs.Steps.{faultsOf, enteredBy, leftBy, leafBy}
+use Rattle.judges_state.specs.Steps.{enteredBy, leftBy, leafBy}
 use Rattle.judges_state.specs.declared.Judge.{Judge}
 use Rattle.judges_model.proofs.Answers.{child-entered, child-left}
 use Rattle.tally_tag.specs.Tallying as G
@@ -27,7 +27,6 @@ use Rattle.tally_tag.specs.declared.Tally.{Tally as Tallied}
 use Rattle.tally.proofs.Named.{enter-named, leave-named, written-named}
 use Rattle.tallies_state.specs.Flat.{tallyOf, Kept}
 use Rattle.tallies_state.specs.declared.Tally.{Tally}
-use Rattle.tags_faults.specs.Told.{faultsAt}
 use Rattle.tags_numbers.specs.Given.{numbersOf, Bounded}
 use Rattle.tallies.proofs.Leaving.{left-by, stored-by}
 use Rattle.tags.specs.Reads.{Reads}
@@ -75,26 +74,15 @@ pub leafs : (st : State) (j : Judge) (p child entry : ℕ) (said : Said) → jud
 unfolding stateOf leafOf
 leafs st j p child entry said e = beside e refl refl
 
--- a tag's fault, by either name of the list
-told-faults : (p n wrong : ℕ) → least (faultsAt (cond (eqb wrong 0) p wrong) n) ≡ least (faultsOf p n wrong)
-unfolding faultsAt faultsOf
-told-faults p n wrong = refl
-
-module _ (s : List ℕ) (st : State) (p behind : ℕ) (n : List ℕ) {child entry : ℕ} {tag : Tag} (r : Reads s behind child tag) (z : tag .end ≡ 0 → ⊥) (ec : child ≡ elementNumber n) (ee : entry ≡ entryAt (st .judge .row) child) where
-  pub fault-small : tag .fault < 128
-  fault-small = omega (arith, r .small)
-
-  pub wrong-small : length s ≤ 65535 → tag .wrong ≤ 65535
-  wrong-small h = omega (arith, r .inside)
-
+module _ (s : List ℕ) (st : State) (p behind : ℕ) (n : List ℕ) {child entry : ℕ} {tag : Tag} (r : Reads s p behind child tag) (z : tag .end ≡ 0 → ⊥) (ec : child ≡ elementNumber n) (ee : entry ≡ entryAt (st .judge .row) child) where
   pub bounded : Bounded child (tag .given)
   bounded = r .bounded z
 
-  pub enters : (j : Judge) (g : Tally) {f : ℕ} → p < behind → f ≡ tag .fault → judgeOf j ≡ enteredBy (judgeOf (st .judge)) p child entry f (tag .wrong) → tallyOf g ≡ enterBy (tallyOf (st .tally)) child → g .root ≡ cond (eqb (st .tally .level) 0) p (st .tally .root)
+  pub enters : (j : Judge) (g : Tally) → p < behind → judgeOf j ≡ enteredBy (judgeOf (st .judge)) p child entry (faultIn (tag .told)) → tallyOf g ≡ enterBy (tallyOf (st .tally)) child → g .root ≡ cond (eqb (st .tally .level) 0) p (st .tally .root)
       → stateOf (record { judge = j; tally = g }) ≡ enterOf (stateOf st) p n (attributes behind 0 (drop behind s))
   unfolding stateOf enterOf tallyOf
-  enters j g {f} l q a b u = beside
-      (child-entered (st .judge) p n (attributes behind 0 (drop behind s)) ec ee j f (tag .wrong) (attributes-behind (p + 1) behind 0 (drop behind s) (omega arith)) (r .told z p l ∙ told-faults p (tag .fault) (tag .wrong) ∙ ap (λ (m : ℕ). least (faultsOf p m (tag .wrong))) (sym q)) a)
+  enters j g l a b u = beside
+      (child-entered (st .judge) p n (attributes behind 0 (drop behind s)) ec ee j (faultIn (tag .told)) (attributes-behind (p + 1) behind 0 (drop behind s) (omega arith)) (sym (r .told′ z)) a)
       (b ∙ ap (enterBy (tallyOf (st .tally))) ec ∙ enter-named n (tallyOf (st .tally)))
       u
 
@@ -111,4 +99,4 @@ module _ (s : List ℕ) (st : State) (p behind : ℕ) (n : List ℕ) {child entr
     unfolding stateOf writtenOf
     stores t b = stored-by (tallyOf (st .tally)) p child (numbersBy child (attributes behind 0 (drop behind s))) (tallyOf (inner .tally)) (r .numbers z) t b ∙ rw ec (written-named n (tallyOf (st .tally)) p (attributes behind 0 (drop behind s)) (tallyOf (inner .tally)) t)
 
-pub ruleset steps = (placed, kept, total-kept, few, fits, left-fits, started, others, leafs, fault-small, wrong-small, bounded, enters, leaves, stores, needs)
+pub ruleset steps = (placed, kept, total-kept, few, fits, left-fits, started, others, leafs, bounded, enters, leaves, stores, needs)

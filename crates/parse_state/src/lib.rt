@@ -24,12 +24,6 @@ pub struct State {
     pub tally: Tally,
 }
 
-fn wide(number: u8) -> usize
-    ensures { λ r. ⌜ r ≡ number ⌝ }
-{
-    number as usize
-}
-
 fn wider(number: u8) -> u64
     ensures { λ r. ⌜ r ≡ number ⌝ }
 {
@@ -55,10 +49,10 @@ pub fn enter(
     tag: Tag,
     st: State,
 ) -> State
-    requires { ⌜ Reads (now s) behind child tag × (tag .end ≡ 0 → ⊥) × (child ≡ elementNumber (part (now s) (at + 1) behind)) × (entry ≡ entryAt (st .judge .row) child) × (at < behind) × (length (now s) ≤ 65535) × (at ≤ 65535) × Fits st × (st .tally .records < 4096) ⌝ }
+    requires { ⌜ Reads (now s) at behind child tag × (tag .end ≡ 0 → ⊥) × (child ≡ elementNumber (part (now s) (at + 1) behind)) × (entry ≡ entryAt (st .judge .row) child) × (at < behind) × (at ≤ 65535) × Fits st × (st .tally .records < 4096) ⌝ }
     ensures { λ r. ⌜ (stateOf r ≡ enterOf (stateOf st) at (part (now (s .entry)) (at + 1) behind) (attributes behind 0 (drop behind (now (s .entry))))) × Fits r × (r .tally .records ≤ st .tally .records + 1) ⌝ }
 {
-    let judge = judges_enter::enter(st.judge, at, child, entry, wide(tag.fault), tag.wrong);
+    let judge = judges_enter::enter(st.judge, at, child, entry, tag.told);
     let tally = tallies_state::enter(st.tally, at, child);
     State { judge, tally }
 }
@@ -113,7 +107,7 @@ pub fn leave(
     inner: State,
     rows: &mut [i64],
 ) -> State
-    requires { ⌜ Reads (now s) behind child tag × (tag .end ≡ 0 → ⊥) × (child ≡ elementNumber (part (now s) (at + 1) behind)) × (entry ≡ entryAt (outer .judge .row) child) × (at ≤ 65535) × Fits outer × Fits inner × (length (now rows) % 8 ≡ 0) ⌝ }
+    requires { ⌜ Reads (now s) at behind child tag × (tag .end ≡ 0 → ⊥) × (child ≡ elementNumber (part (now s) (at + 1) behind)) × (entry ≡ entryAt (outer .judge .row) child) × (at ≤ 65535) × Fits outer × Fits inner × (length (now rows) % 8 ≡ 0) ⌝ }
     ensures { λ r. ⌜ (stateOf r ≡ leaveOf (stateOf outer) at (part (now (s .entry)) (at + 1) behind) (attributes behind 0 (drop behind (now (s .entry)))) (stateOf inner)) × Fits r × (r .tally .records ≤ inner .tally .records) ⌝ }
     ensures rows { λ _. ⌜ (now (rows .exit) ≡ writtenOf (stateOf outer) at (part (now (s .entry)) (at + 1) behind) (attributes behind 0 (drop behind (now (s .entry)))) (stateOf inner) (now (rows .entry))) × (length (now (rows .exit)) ≡ length (now (rows .entry))) ⌝ }
 {

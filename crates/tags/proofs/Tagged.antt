@@ -12,7 +12,7 @@ use lib.Dec.{eqb}
 use lib.ListN.{length, drop, getD, drop-of-length-le, List·getD-eq-default}
 use lib.Seq.{drop-drop}
 use Rattle.cdi.specs.Lists.{any, all, same, begins, isEmpty, after}
-use Rattle.cdi.specs.Faults.{Fault, lesser, least}
+use Rattle.cdi.specs.Faults.{Fault, fault, lesser, least}
 use Rattle.cdi.specs.Pieces.{Attribute, blank, attributes, tagEnd, bears, twice}
 use Rattle.cdi.specs.Markup.{refers}
 use Rattle.cdi.specs.Rules.{rulesFaults, namesFaults, attributeFaults}
@@ -23,6 +23,8 @@ use Rattle.scan.specs.Spans.{Span}
 use Rattle.scan.proofs.Along.{drop-next}
 use Rattle.scan.proofs.Spans.{span-rest}
 use Rattle.scan.proofs.Tests.{lt-or-le, eq-or-ne}
+use Rattle.keys.specs.Keys.{faultIn}
+use Rattle.keys.proofs.Keying.{no-fault}
 use Rattle.names.specs.Names.{attributeNumber}
 use Rattle.pieces_cuts.specs.Places.{closing, Closes}
 use Rattle.rules_judge.specs.Tables as T
@@ -41,10 +43,9 @@ use Rattle.tags_numbers.specs.declared.Given.{Given}
 use Rattle.tags_numbers.proofs.Numbered.{cells-held, given-held}
 use Rattle.tags_gather.specs.Gathers.{Gathers}
 use Rattle.tags_gather.specs.declared.Gathered.{Gathered}
-use Rattle.tags_wrong.specs.Named.{wrongBy, Finds}
-use Rattle.tags_wrong.specs.declared.Wrong.{Wrong}
+use Rattle.tags_wrong.specs.Named.{textsBy}
 use Rattle.tags_wrong.proofs.Naming.{none-wrong}
-use Rattle.tags.specs.Reads.{Ends, noTag, closeOf, Tells, Reads}
+use Rattle.tags.specs.Reads.{Ends, noTag, closeOf, Says, Reads}
 use Rattle.tags.specs.declared.Tag.{Tag}
 
 -- ── the end ──
@@ -151,18 +152,15 @@ module _ (s : List Attribute) {again strange : Bool} (a : again ≡ knownTwice s
 
 -- ── a tag ──
 
-noTag-reads : (s : List ℕ) (n e : ℕ) → closeOf s n ≡ none → Reads s n e noTag
-noTag-reads s n e q = record {
+noTag-reads : (s : List ℕ) (at n e : ℕ) → closeOf s n ≡ none → Reads s at n e noTag
+noTag-reads s at n e q = record {
   closes = q;
   low = λ z. absurd (z refl);
   high = omega arith;
   none′ = λ z. refl;
   refer = λ z. absurd (z refl);
   alone = λ z. absurd (z refl);
-  told = λ z. absurd (z refl);
-  small = omega arith;
-  inside = omega arith;
-  nowhere = λ z. refl;
+  told′ = λ z. absurd (z refl);
   size = λ z. absurd (z refl);
   numbers = λ z. absurd (z refl);
   bounded = λ z. absurd (z refl);
@@ -170,100 +168,58 @@ noTag-reads s n e q = record {
 
 -- ── the faults ──
 
-pub at-tag-told : (s : List ℕ) (n e : ℕ) (codes : List ℕ) (exact : ℕ) (known : Bool) {m : ℕ} → m ≡ rulesBy e codes exact → (m ≡ 0 → ⊥) → Tells s n e codes exact known (record { number = m; place = 0 })
-at-tag-told s n e codes exact known p z = record {
-  at-tag = λ q. (p, refl);
-  right = λ q. absurd (z (p ∙ q));
-  at-name = λ q. absurd (z (p ∙ q));
-}
+module _ (n p : ℕ) where
+  pub no-number : n ≡ 0 → faultIn 0xFFFF_FFFF_FFFF_FFFF ≡ least (faultsAt p n)
+  unfolding faultsAt least
+  no-number z = no-fault 0xFFFF_FFFF_FFFF_FFFF refl ∙ rw z
 
-module _ (s : List ℕ) (n e : ℕ) (codes : List ℕ) (exact : ℕ) (known : Bool) {m : ℕ} (p : m ≡ rulesBy e codes exact) (z : m ≡ 0) {t : Bool} (w : t ≡ wrongBy e codes known) where
-  pub none-told-wrong : t ≡ false → Tells s n e codes exact known (record { number = 0; place = 0 })
-  none-told-wrong f = record {
-    at-tag = λ q. absurd (q (sym p ∙ z));
-    right = λ q g. (refl, refl);
-    at-name = λ q g. impossible (let y : false ≡ true = sym f ∙ w ∙ g in cc);
-  }
+  pub one-number : {m : ℕ} (r : ℕ) → (n ≡ 0 → ⊥) → m ≡ n → faultIn r ≡ some (fault m p) → faultIn r ≡ least (faultsAt p n)
+  unfolding faultsAt least lesser
+  one-number r z q f = f ∙ rw (q, ne-eqb n 0 z)
 
-  pub name-told-wrong : {r : Wrong} → t ≡ true → Finds s n e r → Tells s n e codes exact known r
-  name-told-wrong f v = record {
-    at-tag = λ q. absurd (q (sym p ∙ z));
-    right = λ q g. impossible (let y : true ≡ false = sym f ∙ w ∙ g in cc);
-    at-name = λ q g. v;
-  }
+pub ruleset number-keys = (no-number, one-number, needs)
 
-pub ruleset tellings = (at-tag-told, none-told-wrong, name-told-wrong, needs)
+module _ (s : List ℕ) (p n e : ℕ) {codes : List ℕ} {exact : ℕ} {known : Bool} (u : Says s n e codes exact known) {m : ℕ} (x : m ≡ rulesBy e codes exact) where
+  abbrev given-here : List Attribute
+  given-here = attributes n 0 (drop n s)
 
-module _ (s : List ℕ) (n e : ℕ) {codes : List ℕ} {exact : ℕ} {known : Bool} {r : Wrong} where
-  told-inside : Tells s n e codes exact known r → r .place ≤ length s
-  told-inside u = ⊎-elim
-      (λ (z : rulesBy e codes exact ≡ 0). by (wrongBy e codes known) refl z)
-      (λ (z : rulesBy e codes exact ≡ 0 → ⊥). let q = u .at-tag z .1 in omega (arith, q))
-      (eq-or-ne (rulesBy e codes exact) 0)
-    where
-      by : (t : Bool) → wrongBy e codes known ≡ t → rulesBy e codes exact ≡ 0 → r .place ≤ length s
-      by true y z = u .at-name z y .high
-      by false y z = let q = u .right z y .1 in omega (arith, q)
+  -- the least of those at the tag and of those at names
+  parts : least (attributeFaults p (rowAt e) given-here) ≡ lesser (least (faultsAt p m)) (least (namesFaults (rowAt e .attributes) given-here))
+  unfolding attributeFaults
+  parts = least-append (rulesFaults p (rowAt e .attributes) given-here) (namesFaults (rowAt e .attributes) given-here)
+      ∙ ap (λ (o : Option Fault). lesser o (least (namesFaults (rowAt e .attributes) given-here))) (told e p given-here (u .coded) (u .size) ∙ ap (λ (k : ℕ). least (faultsAt p k)) (sym x))
 
-  told-nowhere : Tells s n e codes exact known r → r .number ≡ 0 → r .place ≡ 0
-  told-nowhere u m = ⊎-elim
-      (λ (z : rulesBy e codes exact ≡ 0). by (wrongBy e codes known) refl z)
-      (λ (z : rulesBy e codes exact ≡ 0 → ⊥). u .at-tag z .1)
-      (eq-or-ne (rulesBy e codes exact) 0)
-    where
-      by : (t : Bool) → wrongBy e codes known ≡ t → rulesBy e codes exact ≡ 0 → r .place ≡ 0
-      by true y z = u .at-name z y .none′ m
-      by false y z = u .right z y .1
+  pub number-small : {k : ℕ} → k ≡ m → k < 128
+  number-small q = omega (arith, q, x, fault-small e {codes = codes} exact given-here (u .coded))
 
-  module _ (w : Coded codes (attributes n 0 (drop n s))) where
-    told-small : Tells s n e codes exact known r → r .number ≤ 87
-    told-small u = ⊎-elim
-        (λ (z : rulesBy e codes exact ≡ 0). by (wrongBy e codes known) refl z)
-        (λ (z : rulesBy e codes exact ≡ 0 → ⊥). let q = u .at-tag z .0 in omega (arith, q, fault-small e {codes = codes} exact (attributes n 0 (drop n s)) w))
-        (eq-or-ne (rulesBy e codes exact) 0)
-      where
-        by : (t : Bool) → wrongBy e codes known ≡ t → rulesBy e codes exact ≡ 0 → r .number ≤ 87
-        by true y z = u .at-name z y .small
-        by false y z = let q = u .right z y .0 in omega (arith, q)
+  pub at-tag : {k : ℕ} (r : ℕ) → p < n → (m ≡ 0 → ⊥) → k ≡ m → faultIn r ≡ some (fault k p) → faultIn r ≡ least (attributeFaults p (rowAt e) given-here)
+  at-tag r l z q f = f ∙ rw q (sym (parts ∙ (unfold faultsAt least lesser in rw (ne-eqb m 0 z) (names-silent m p (rowAt e .attributes) given-here (attributes-behind (p + 1) n 0 (drop n s) (omega arith))))))
 
-    -- the least fault of the attributes is the one that is told
-    least-told : exact ≡ intSize (attributes n 0 (drop n s)) → known ≡ all (hasNumber (T.attributeOf (ruleAt e 0)) (T.attributeOf (ruleAt e 1)) (T.attributeOf (ruleAt e 2))) (attributes n 0 (drop n s))
-        → twice (attributes n 0 (drop n s)) ≡ false → Tells s n e codes exact known r → (p : ℕ) → p < n
-        → least (attributeFaults p (rowAt e) (attributes n 0 (drop n s))) ≡ least (faultsAt (cond (eqb (r .place) 0) p (r .place)) (r .number))
-    unfolding attributeFaults
-    least-told x k d u p l =
-        least-append (rulesFaults p (rowAt e .attributes) (attributes n 0 (drop n s))) (namesFaults (rowAt e .attributes) (attributes n 0 (drop n s)))
-        ∙ ap (λ (o : Option Fault). lesser o (least (namesFaults (rowAt e .attributes) (attributes n 0 (drop n s))))) (told e p (attributes n 0 (drop n s)) w x)
-        ∙ ⊎-elim (λ (z : rulesBy e codes exact ≡ 0). none z ∙ by (wrongBy e codes known) refl z) here (eq-or-ne (rulesBy e codes exact) 0)
-      where
-        names : Option Fault
-        names = least (namesFaults (rowAt e .attributes) (attributes n 0 (drop n s)))
+  module _ (z : m ≡ 0) where
+    at-names : least (attributeFaults p (rowAt e) given-here) ≡ least (namesFaults (rowAt e .attributes) given-here)
+    at-names = parts ∙ (unfold faultsAt least lesser in rw z)
 
-        here : (rulesBy e codes exact ≡ 0 → ⊥) → lesser (least (faultsAt p (rulesBy e codes exact))) names ≡ least (faultsAt (cond (eqb (r .place) 0) p (r .place)) (r .number))
-        here z = let q = u .at-tag z in rw (q .0, q .1) (at-front (rulesBy e codes exact) z)
-          where
-            at-front : (m : ℕ) → (m ≡ 0 → ⊥) → lesser (least (faultsAt p m)) names ≡ least (faultsAt p m)
-            at-front m z = unfold faultsAt least lesser in rw (ne-eqb m 0 z) (names-silent m p (rowAt e .attributes) (attributes n 0 (drop n s)) (attributes-behind (p + 1) n 0 (drop n s) (omega arith)))
+    pub at-name : (r : ℕ) → faultIn r ≡ least (namesFaults (rowAt e .attributes) given-here) → faultIn r ≡ least (attributeFaults p (rowAt e) given-here)
+    at-name r f = f ∙ sym at-names
 
-        none : rulesBy e codes exact ≡ 0 → lesser (least (faultsAt p (rulesBy e codes exact))) names ≡ names
-        none z = unfold faultsAt least lesser in rw z
+    pub nowhere : {t : Bool} → known ≡ true → t ≡ textsBy e codes → t ≡ false → faultIn 0xFFFF_FFFF_FFFF_FFFF ≡ least (attributeFaults p (rowAt e) given-here)
+    unfolding least
+    nowhere k q f = no-fault 0xFFFF_FFFF_FFFF_FFFF refl ∙ sym (at-names ∙ rw (none-wrong e given-here (u .coded) (sym (u .know) ∙ k) (u .once) (sym q ∙ f)))
 
-        by : (t : Bool) → wrongBy e codes known ≡ t → rulesBy e codes exact ≡ 0 → names ≡ least (faultsAt (cond (eqb (r .place) 0) p (r .place)) (r .number))
-        by false y z = let q = u .right z y in rw (none-wrong e (attributes n 0 (drop n s)) w k d (sym y) refl, q .0, q .1) (unfold faultsAt in refl)
-        by true y z = ⊎-elim
-            (λ (m : r .number ≡ 0). f .is ∙ (unfold faultsAt in rw m))
-            (λ (m : r .number ≡ 0 → ⊥). let q = f .low m in f .is ∙ rw (ne-eqb (r .place) 0 (λ c. omega (arith, c, q))))
-            (eq-or-ne (r .number) 0)
-          where
-            f : Finds s n e r
-            f = u .at-name z y
+pub said-codes : {s : List ℕ} {n e : ℕ} {codes : List ℕ} {exact : ℕ} {known : Bool} → Says s n e codes exact known → Coded codes (attributes n 0 (drop n s))
+said-codes u = u .coded
+
+pub said-once : {s : List ℕ} {n e : ℕ} {codes : List ℕ} {exact : ℕ} {known : Bool} → Says s n e codes exact known → twice (attributes n 0 (drop n s)) ≡ false
+said-once u = u .once
+
+pub ruleset tellings = (number-small, at-tag, at-name, nowhere, said-codes, said-once, needs)
 
 is-none : (n : ℕ) (s : List Attribute) → n ≡ length s → eqb n 0 ≡ isEmpty s
 unfolding isEmpty
 is-none n [] e = rw e
 is-none n (x ∷ s) e = ne-eqb n 0 (λ z. omega arith)
 
-module _ (s : List ℕ) (n e : ℕ) {l end : ℕ} {short : Bool} (c : Closes s n l) (d : Ends s l end short) where
+module _ (s : List ℕ) (at n e : ℕ) {l end : ℕ} {short : Bool} (c : Closes s n l) (d : Ends s l end short) where
   closes-as : closeOf s n ≡ cond (twice (attributes n 0 (drop n s))) none (cond (eqb end 0) none (some (short, drop end s)))
   unfolding closeOf
   closes-as = ap (cond (twice (attributes n 0 (drop n s))) none) (c .is ∙ d .is)
@@ -272,40 +228,38 @@ module _ (s : List ℕ) (n e : ℕ) {l end : ℕ} {short : Bool} (c : Closes s n
   either-none true = refl
   either-none false = refl
 
-  pub not-closed : {r : Tag} → end ≡ 0 → r ≡ noTag → Reads s n e r
-  not-closed z q = rw q (noTag-reads s n e (closes-as ∙ rw z (either-none (twice (attributes n 0 (drop n s))))))
+  pub not-closed : {r : Tag} → end ≡ 0 → r ≡ noTag → Reads s at n e r
+  not-closed z q = rw q (noTag-reads s at n e (closes-as ∙ rw z (either-none (twice (attributes n 0 (drop n s))))))
 
   module _ (z : end ≡ 0 → ⊥) {t : Bool} (w : t ≡ twice (attributes n 0 (drop n s))) where
-    pub doubled : {r : Tag} → t ≡ true → r ≡ noTag → Reads s n e r
-    doubled f q = rw q (noTag-reads s n e (closes-as ∙ rw (← w, f)))
+    pub doubled : {r : Tag} → t ≡ true → r ≡ noTag → Reads s at n e r
+    doubled f q = rw q (noTag-reads s at n e (closes-as ∙ rw (← w, f)))
 
-    pub tag-read : {g : Gathered} {codes amounts : List ℕ} {x : Wrong} {given : Given} → t ≡ false → Gathers e (attributes n 0 (drop n s)) g codes amounts → Tells s n e codes (g .exact) (g .known) x → given ≡ givenIn e codes amounts → Bounded e given
-        → Reads s n e (record { end = end; short = short; refers = g .refers; bare = eqb (g .count) 0; fault = x .number; exact = g .exact; wrong = x .place; given = given })
-    tag-read {g} {codes} {amounts} {x} f v u y b = record {
+    pub tag-read : {g : Gathered} {codes amounts : List ℕ} {k : ℕ} {given : Given} → t ≡ false → Gathers e (attributes n 0 (drop n s)) g codes amounts → faultIn k ≡ least (attributeFaults at (rowAt e) (attributes n 0 (drop n s))) → given ≡ givenIn e codes amounts → Bounded e given
+        → Reads s at n e (record { end = end; short = short; refers = g .refers; bare = eqb (g .count) 0; exact = g .exact; told = k; given = given })
+    tag-read {g} {codes} {amounts} {k} f v u y b = record {
       closes = closes-as ∙ rw (← w, f);
       low = λ q. omega (arith, c .low, d .low z);
       high = d .high;
       none′ = λ q. absurd (z q);
       refer = λ q. v .refer;
       alone = λ q. is-none (g .count) (attributes n 0 (drop n s)) (v .count);
-      told = λ q p. least-told s n e coded (v .exact) (v .know) (sym w ∙ f) u p;
-      small = told-small s n e coded u;
-      inside = told-inside s n e u;
-      nowhere = told-nowhere s n e u;
+      told′ = λ q. u;
       size = λ q. v .exact;
       numbers = λ q. y ∙ given-held (attributes n 0 (drop n s)) (v .cells) e;
       bounded = λ q. b;
     }
-      where
-        coded : Coded codes (attributes n 0 (drop n s))
-        coded = record { each = v .cells .code }
 
   pub cells-right : {g : Gathered} {codes amounts : List ℕ} → Gathers e (attributes n 0 (drop n s)) g codes amounts → Cells codes amounts
   cells-right v = cells-held (attributes n 0 (drop n s)) (v .cells)
 
+pub says : (s : List ℕ) (n e : ℕ) {t : Bool} {g : Gathered} {codes amounts : List ℕ} → Gathers e (attributes n 0 (drop n s)) g codes amounts → t ≡ twice (attributes n 0 (drop n s)) → t ≡ false
+    → Says s n e codes (g .exact) (g .known)
+says s n e v w f = record { coded = record { each = v .cells .code }; size = v .exact; know = v .know; once = sym w ∙ f }
+
 -- ── a tag without attributes ──
 
-module _ (s : List ℕ) (n e : ℕ) {a : Bool} (w : a ≡ begins (62 ∷ []) (drop n s)) (f : a ≡ true) where
+module _ (s : List ℕ) (at n e : ℕ) {a : Bool} (w : a ≡ begins (62 ∷ []) (drop n s)) (f : a ≡ true) where
   here : n < length s
   here = room s n 62 (sym w ∙ f)
 
@@ -335,19 +289,16 @@ module _ (s : List ℕ) (n e : ℕ) {a : Bool} (w : a ≡ begins (62 ∷ []) (dr
   unfolding attributeFaults namesFaults
   none-named p = ap least (append-nil (rulesFaults p (rowAt e .attributes) []))
 
-  pub bare-read : {fault : ℕ} {given : Given} → fault ≡ rulesBy e [] 1 → given ≡ givenBy e (numbersBy e []) → Bounded e given
-      → Reads s n e (record { end = n + 1; short = false; refers = false; bare = true; fault = fault; exact = 1; wrong = 0; given = given })
-  bare-read {fault} x y b = record {
+  pub bare-read : {m k : ℕ} {given : Given} → m ≡ rulesBy e [] 1 → faultIn k ≡ least (faultsAt at m) → given ≡ givenBy e (numbersBy e []) → Bounded e given
+      → Reads s at n e (record { end = n + 1; short = false; refers = false; bare = true; exact = 1; told = k; given = given })
+  bare-read {m} {k} x q y b = record {
     closes = unfold closeOf twice in rw (no-attributes, ends-here, ne-eqb (n + 1) 0 (λ z. omega arith));
     low = λ q. omega arith;
     high = omega (arith, here);
     none′ = λ q. absurd (omega arith);
     refer = λ q. unfold refers any in rw no-attributes;
     alone = λ q. unfold isEmpty in rw no-attributes;
-    told = λ q p l. ap (λ (xs : List Attribute). least (attributeFaults p (rowAt e) xs)) no-attributes ∙ none-named p ∙ told e p {codes = []} {exact = 1} [] none-coded (sym default-size) ∙ ap (λ (m : ℕ). least (faultsAt p m)) (sym x);
-    small = omega (arith, x, fault-small e {codes = []} 1 [] none-coded);
-    inside = omega arith;
-    nowhere = λ q. refl;
+    told′ = λ z. q ∙ sym (ap (λ (xs : List Attribute). least (attributeFaults at (rowAt e) xs)) no-attributes ∙ none-named at ∙ told e at {codes = []} {exact = 1} [] none-coded (sym default-size) ∙ ap (λ (m : ℕ). least (faultsAt at m)) (sym x));
     size = λ q. sym (ap intSize no-attributes ∙ default-size);
     numbers = λ q. rw no-attributes y;
     bounded = λ q. b;
@@ -385,4 +336,4 @@ empty-cells = record { code = noughts; amount = λ a l h. eqb-true _ _ (below 11
         (λ (h : 11 ≤ a). List·getD-eq-default (0 ∷ 0 ∷ 0 ∷ 0 ∷ 0 ∷ 0 ∷ 0 ∷ 0 ∷ 0 ∷ 0 ∷ 0 ∷ []) 0 h)
         (lt-or-le a 11)
 
-pub ruleset tags = (empty-cells, not-closed, doubled, tag-read, cells-right, needs)
+pub ruleset tags = (empty-cells, not-closed, doubled, tag-read, says, cells-right, needs)

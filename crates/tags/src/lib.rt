@@ -1,5 +1,7 @@
 // A start tag, read once: where it ends, and what its attributes give.
 
+use keys::NOTHING;
+use keys::key_of;
 use pieces_twice::is_twice_among_few;
 use pieces_twice::is_twice_among_many;
 use pieces_twice::is_twice_among_more;
@@ -10,29 +12,30 @@ use tags_gather::gather;
 use tags_numbers::Given;
 use tags_numbers::bare_numbers;
 use tags_numbers::numbers_in;
-use tags_wrong::Wrong;
 use tags_wrong::first_wrong;
-use tags_wrong::is_any_wrong;
+use tags_wrong::is_text_wrong;
 ghost use mathlib.Core.Path.{_≡_};
 ghost use mathlib.Core.List.{[]};
-ghost use Prim.Native.Nat.{_≤_};
+ghost use Prim.Native.Nat.{_≤_, _<_};
 ghost use lib.ListN.{length, drop};
 ghost use Rattle.cdi.specs.Lists.{any};
+ghost use Rattle.cdi.specs.Faults.{least};
 ghost use Rattle.cdi.specs.Pieces.{attributes, twice};
+ghost use Rattle.cdi.specs.Rules.{attributeFaults};
+ghost use Rattle.keys.specs.Keys.{faultIn};
+ghost use Rattle.rules_judge.specs.Judging.{rowAt};
 ghost use Rattle.tags_cells.specs.Cells.{hasOne, knownTwice};
-ghost use Rattle.tags_faults.specs.Told.{rulesBy};
-ghost use Rattle.tags.specs.Reads.{Ends, noTag, Tells, Reads};
+ghost use Rattle.tags_faults.specs.Told.{rulesBy, faultsAt};
+ghost use Rattle.tags.specs.Reads.{Ends, noTag, Says, Reads};
 
-// `end` is behind the tag, 0 where it is malformed; `fault` the number of the least of its attributes' faults, or 0; `wrong` the place of the name where
-// that one stands, or 0 where it stands at the tag's `<`; `exact` the size that it says exactly.
+// `end` is behind the tag, 0 where it is malformed; `exact` the size that it says exactly; `told` the key of the least of its attributes' faults.
 pub struct Tag {
     pub end: usize,
     pub short: bool,
     pub refers: bool,
     pub bare: bool,
-    pub fault: u8,
     pub exact: u8,
-    pub wrong: usize,
+    pub told: usize,
     pub given: Given,
 }
 
@@ -88,9 +91,8 @@ fn no_tag() -> Tag
         short: false,
         refers: false,
         bare: false,
-        fault: 0,
         exact: 0,
-        wrong: 0,
+        told: NOTHING,
         given,
     }
 }
@@ -121,9 +123,27 @@ fn is_double(s: &[u8], at: usize, last: usize, again: bool, strange: bool) -> bo
     false
 }
 
-// The fault of a tag without attributes: one that must be there.
+fn wide(number: u8) -> usize
+    ensures { λ r. ⌜ r ≡ number ⌝ }
+{
+    number as usize
+}
+
+// The key of a fault of that number at this place, of which 0 is none.
+fn key_at(number: u8, at: usize) -> usize
+    requires { ⌜ (number < 128) × (at ≤ 65535) ⌝ }
+    ensures { λ r. ⌜ faultIn r ≡ least (faultsAt at number) ⌝ }
+{
+    if number == 0 {
+        return NOTHING;
+    }
+    key_of(wide(number), at)
+}
+
+// The number of the fault of a tag without attributes: one that must be there.
 fn bare_fault(element: u8) -> u8
     ensures { λ r. ⌜ r ≡ rulesBy element [] 1 ⌝ }
+    ensures bounds { λ r. ⌜ r < 128 ⌝ }
 {
     if element == 1 {
         return 86;
@@ -140,28 +160,36 @@ fn bare_fault(element: u8) -> u8
     0
 }
 
-// The least fault of a tag's attributes, by what they say: at the tag's `<`, or else at a name.
-fn told(s: &[u8], behind: usize, element: u8, codes: &[u8; 11], exact: u8, known: bool) -> Wrong
-    requires { ⌜ behind ≤ length (now s) ⌝ }
-    ensures { λ r. ⌜ Tells (now (s .entry)) behind element (now (codes .entry)) exact known r ⌝ }
+// The key of the least fault of the attributes of a tag at this place, by what they say: it stands at the tag's `<`, or else at a name.
+fn told(
+    s: &[u8],
+    at: usize,
+    behind: usize,
+    element: u8,
+    codes: &[u8; 11],
+    exact: u8,
+    known: bool,
+) -> usize
+    requires { ⌜ (at < behind) × (behind ≤ length (now s)) × (length (now s) ≤ 65535) × Says (now s) behind element (now codes) exact known ⌝ }
+    ensures { λ r. ⌜ faultIn r ≡ least (attributeFaults at (rowAt element) (attributes behind 0 (drop behind (now (s .entry))))) ⌝ }
 {
     let number = fault_of(element, codes, exact);
-    if number == 0 {
-        if is_any_wrong(element, codes, known) {
-            return first_wrong(s, behind, element);
-        }
-        return Wrong {
-            number: 0,
-            place: 0,
-        };
+    if number != 0 {
+        return key_of(wide(number), at);
     }
-    Wrong { number, place: 0 }
+    if known {
+        if is_text_wrong(element, codes) {
+            return first_wrong(s, behind, element, codes);
+        }
+        return NOTHING;
+    }
+    first_wrong(s, behind, element, codes)
 }
 
 // A tag with attributes, or with a blank or a slash behind its name.
-fn attributed(s: &[u8], behind: usize, element: u8) -> Tag
-    requires { ⌜ behind ≤ length (now s) ⌝ }
-    ensures { λ r. ⌜ Reads (now (s .entry)) behind element r ⌝ }
+fn attributed(s: &[u8], at: usize, behind: usize, element: u8) -> Tag
+    requires { ⌜ (at < behind) × (behind ≤ length (now s)) × (length (now s) ≤ 65535) ⌝ }
+    ensures { λ r. ⌜ Reads (now (s .entry)) at behind element r ⌝ }
 {
     let mut codes = [0u8; 11];
     let mut amounts = AMOUNTS;
@@ -173,24 +201,23 @@ fn attributed(s: &[u8], behind: usize, element: u8) -> Tag
     if is_double(s, behind, g.last, g.again, g.strange) {
         return no_tag();
     }
-    let w = told(s, behind, element, &codes, g.exact, g.known);
+    let key = told(s, at, behind, element, &codes, g.exact, g.known);
     let given = numbers_in(element, &codes, &amounts);
     Tag {
         end: e.end,
         short: e.short,
         refers: g.refers,
         bare: g.count == 0,
-        fault: w.number,
         exact: g.exact,
-        wrong: w.place,
+        told: key,
         given,
     }
 }
 
-// The start tag of an element of that number, whose name ends before `behind`.
-pub fn start_tag(s: &[u8], behind: usize, element: u8) -> Tag
-    requires { ⌜ (1 ≤ behind) × (behind ≤ length (now s)) ⌝ }
-    ensures { λ r. ⌜ Reads (now (s .entry)) behind element r ⌝ }
+// The start tag at this place of an element of that number, whose name ends before `behind`.
+pub fn start_tag(s: &[u8], at: usize, behind: usize, element: u8) -> Tag
+    requires { ⌜ (at < behind) × (behind ≤ length (now s)) × (length (now s) ≤ 65535) ⌝ }
+    ensures { λ r. ⌜ Reads (now (s .entry)) at behind element r ⌝ }
 {
     if is_at(s, behind, b'>') {
         let given = bare_numbers(element);
@@ -199,11 +226,10 @@ pub fn start_tag(s: &[u8], behind: usize, element: u8) -> Tag
             short: false,
             refers: false,
             bare: true,
-            fault: bare_fault(element),
             exact: 1,
-            wrong: 0,
+            told: key_at(bare_fault(element), at),
             given,
         };
     }
-    attributed(s, behind, element)
+    attributed(s, at, behind, element)
 }

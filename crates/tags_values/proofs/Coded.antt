@@ -1,7 +1,7 @@
 -- A value's code and its amount, by each way through the code.
 use mathlib.Core.Path.{_≡_, refl, sym, _∙_}
 use mathlib.Core.List.{List}
-use mathlib.Core.Bool.{Bool, true, false, cond, not, _||_}
+use mathlib.Core.Bool.{Bool, true, false, cond, _||_}
 use mathlib.Core.Option.{Option, none, some}
 use mathlib.Core.Logic.{⊎-elim}
 use Prim.Native.Nat.{ℕ, _+_, _-_, _≤_, _<_}
@@ -15,7 +15,7 @@ use Rattle.cdi.specs.Numbers.{number, within}
 use Rattle.cdi.specs.Rows.{range, rows-page}
 use Rattle.cdi.specs.Rules.{isFormatting}
 use Rattle.cdi.proofs.Quiet.{impossible}
-use Rattle.scan.proofs.Tests.{lt-or-le, eq-or-ne, via}
+use Rattle.scan.proofs.Tests.{lt-or-le, eq-or-ne}
 use Rattle.numbers.specs.Held.{signedOf, numberOf, Judges}
 use Rattle.numbers.specs.declared.Signed.{Signed}
 use Rattle.numbers.specs.declared.Number.{Number}
@@ -158,12 +158,3 @@ pub ruleset text-codes = (first-text, second-text, third-text, good-text, bad-te
 pub number-code : (a : ℕ) (v : List ℕ) → a ≤ 10 → textual a ≡ false → false ≡ eqb (codeOf a v) 87
 unfolding codeOf formCode
 number-code a v h e = rw (range-for a h e) (sym (ne-eqb (rangeCode (lowAt a) (highAt a) (number v)) 87 (λ z. omega (arith, range-code (lowAt a) (highAt a) (number v) .1, z))))
-
-pub text-code : (a : ℕ) (v : List ℕ) (r : Bool) → codeOf a v ≡ cond r 1 87 → not r ≡ eqb (codeOf a v) 87
-text-code a v r e = rw e (by r)
-  where
-    by : (r : Bool) → not r ≡ eqb (cond r 1 87) 87
-    by true = refl
-    by false = refl
-
-pub ruleset wrong-texts = (number-code, text-code, via, needs)

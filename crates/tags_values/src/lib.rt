@@ -13,7 +13,6 @@ use terms::MOST_TEXT;
 ghost use mathlib.Core.Path.{_≡_};
 ghost use mathlib.Core.Bool.{true, false, cond};
 ghost use Prim.Native.Nat.{_≤_, _<_};
-ghost use lib.Dec.{eqb};
 ghost use lib.IntN.{pos};
 ghost use Rattle.cdi.specs.Numbers.{within};
 ghost use Rattle.numbers.specs.Held.{Judges};
@@ -141,17 +140,6 @@ fn text_held(value: &[u8], a: u8) -> Held
         code: 87,
         amount: 0,
     }
-}
-
-// Is it a text, and not the one that it must be?
-pub fn is_wrong(value: &[u8], a: u8) -> bool
-    requires { ⌜ (1 ≤ a) × (a ≤ 10) ⌝ }
-    ensures { λ r. ⌜ r ≡ eqb (codeOf a (now (value .entry))) 87 ⌝ }
-{
-    if is_textual(a) {
-        return !is_text(value, a);
-    }
-    false
 }
 
 // The value of the attribute of that number.

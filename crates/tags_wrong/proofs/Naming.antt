@@ -30,7 +30,7 @@ use Rattle.tags_faults.specs.Told.{Coded, faultsAt}
 use Rattle.tags_faults.proofs.Ruled.{none-known}
 use Rattle.tags_faults.proofs.Faulted as F
 use Rattle.tags_faults.proofs.Faulted.{textForm, rule-is, rule-small, text-rule, its-rule}
-use Rattle.tags_wrong.specs.Named.{wrongBy, nameBy}
+use Rattle.tags_wrong.specs.Named.{textsBy, nameBy}
 
 -- ── one attribute ──
 
@@ -143,16 +143,16 @@ module _ (x : Attribute) where
 
 -- ── all of them ──
 
-or-left : (t u : Bool) → (t || u) ≡ false → t ≡ false
+pub or-left : (t u : Bool) → (t || u) ≡ false → t ≡ false
 or-left true u e = e
 or-left false u e = refl
 
-or-right : (t u : Bool) → (t || u) ≡ false → u ≡ false
+pub or-right : (t u : Bool) → (t || u) ≡ false → u ≡ false
 or-right true u e = impossible (cc)
 or-right false u e = e
 
 -- no name that stands nowhere else has a second value
-other-none : (x : Attribute) (a : ℕ) (s : List Attribute) → attributeNumber (x .name) ≡ a → 1 ≤ a → any (bears (x .name)) s ≡ false → numbered a s ≡ none
+pub other-none : (x : Attribute) (a : ℕ) (s : List Attribute) → attributeNumber (x .name) ≡ a → 1 ≤ a → any (bears (x .name)) s ≡ false → numbered a s ≡ none
 unfolding any bears numbered
 other-none x a [] e l h = refl
 other-none x a (y ∷ s) e l h = ⊎-elim
@@ -216,60 +216,55 @@ for-texts : all-below 12 (λ e. all-below 11 (λ a. not (isIn e a) || (not (text
 unfolding all-below textual tables-page
 for-texts = refl
 
-module _ (e : ℕ) {codes : List ℕ} {known : Bool} (s : List Attribute) (w : Coded codes s)
-    (k : known ≡ all (hasNumber (attributeOf (ruleAt e 0)) (attributeOf (ruleAt e 1)) (attributeOf (ruleAt e 2))) s) where
-  -- Where the codes tell of no wrong attribute there is none.
-  pub none-wrong : {r : Bool} → twice s ≡ false → r ≡ wrongBy e codes known → r ≡ false → namesFaults (rowAt e .attributes) s ≡ []
-  none-wrong {r} d q f = by known k (sym q ∙ f)
-    where
-      by : (t : Bool) → t ≡ all (hasNumber (attributeOf (ruleAt e 0)) (attributeOf (ruleAt e 1)) (attributeOf (ruleAt e 2))) s → wrongBy e codes t ≡ false → namesFaults (rowAt e .attributes) s ≡ []
-      by false i z = impossible (let y : true ≡ false = unfold wrongBy in z in cc)
-      by true i z = none-named e s d (sym i) right
-        where
-          right : (a : ℕ) → a ≤ 10 → isIn e a ≡ true → codeIn a s ≡ 87 → ⊥
-          right a l j c = ⊎-elim near far (lt-or-le e 12)
-            where
-              coded : getD codes a 0 ≡ 87
-              coded = w .each a (in-there e a j) l ∙ c
+-- Where the element knows all attributes and the codes tell of no wrong text, no name has a fault.
+pub none-wrong : (e : ℕ) {codes : List ℕ} (s : List Attribute) → Coded codes s
+    → all (hasNumber (attributeOf (ruleAt e 0)) (attributeOf (ruleAt e 1)) (attributeOf (ruleAt e 2))) s ≡ true → twice s ≡ false → textsBy e codes ≡ false → namesFaults (rowAt e .attributes) s ≡ []
+none-wrong e {codes} s w k d z = none-named e s d k right
+  where
+    right : (a : ℕ) → a ≤ 10 → isIn e a ≡ true → codeIn a s ≡ 87 → ⊥
+    right a l j c = ⊎-elim near far (lt-or-le e 12)
+      where
+        coded : getD codes a 0 ≡ 87
+        coded = w .each a (in-there e a j) l ∙ c
 
-              -- the code that would be wrong is looked at
-              wrong : ((eqb e 1 && (eqb a 1 || eqb a 2)) || (eqb e 9 && eqb a 10)) ≡ true → ⊥
-              wrong h = cdi (eqb e 1) refl (eqb e 9) refl (eqb a 1) refl (eqb a 2) refl (eqb a 10) refl h (unfold wrongBy in z)
-                where
-                  clash : (m : ℕ) → a ≡ m → eqb (getD codes m 0) 87 ≡ false → ⊥
-                  clash m q y = let u : true ≡ false = sym (eq-eqb (getD codes m 0) 87 (rw (← q) coded)) ∙ y in impossible (cc)
+        -- the code that would be wrong is looked at
+        wrong : ((eqb e 1 && (eqb a 1 || eqb a 2)) || (eqb e 9 && eqb a 10)) ≡ true → ⊥
+        wrong h = cdi (eqb e 1) refl (eqb e 9) refl (eqb a 1) refl (eqb a 2) refl (eqb a 10) refl h (unfold textsBy in z)
+          where
+            clash : (m : ℕ) → a ≡ m → eqb (getD codes m 0) 87 ≡ false → ⊥
+            clash m q y = let u : true ≡ false = sym (eq-eqb (getD codes m 0) 87 (rw (← q) coded)) ∙ y in impossible (cc)
 
-                  cdi : (x : Bool) → eqb e 1 ≡ x → (y : Bool) → eqb e 9 ≡ y → (o : Bool) → eqb a 1 ≡ o → (b : Bool) → eqb a 2 ≡ b → (d : Bool) → eqb a 10 ≡ d
-                      → ((x && (o || b)) || (y && d)) ≡ true
-                      → cond x (eqb (getD codes 1 0) 87 || eqb (getD codes 2 0) 87) (cond y (eqb (getD codes 10 0) 87) false) ≡ false → ⊥
-                  cdi true ex y ey true eo b eb d ed h z = clash 1 (eqb-true a 1 eo) (or-left (eqb (getD codes 1 0) 87) (eqb (getD codes 2 0) 87) z)
-                  cdi true ex y ey false eo true eb d ed h z = clash 2 (eqb-true a 2 eb) (or-right (eqb (getD codes 1 0) 87) (eqb (getD codes 2 0) 87) z)
-                  cdi true ex true ey false eo false eb d ed h z = let p : e ≡ 1 = eqb-true e 1 ex in let q : e ≡ 9 = eqb-true e 9 ey in omega (arith, p, q)
-                  cdi true ex false ey false eo false eb d ed h z = impossible (cc)
-                  cdi false ex true ey o eo b eb true ed h z = clash 10 (eqb-true a 10 ed) z
-                  cdi false ex true ey o eo b eb false ed h z = impossible (cc)
-                  cdi false ex false ey o eo b eb d ed h z = impossible (cc)
+            cdi : (x : Bool) → eqb e 1 ≡ x → (y : Bool) → eqb e 9 ≡ y → (o : Bool) → eqb a 1 ≡ o → (b : Bool) → eqb a 2 ≡ b → (d : Bool) → eqb a 10 ≡ d
+                → ((x && (o || b)) || (y && d)) ≡ true
+                → cond x (eqb (getD codes 1 0) 87 || eqb (getD codes 2 0) 87) (cond y (eqb (getD codes 10 0) 87) false) ≡ false → ⊥
+            cdi true ex y ey true eo b eb d ed h z = clash 1 (eqb-true a 1 eo) (or-left (eqb (getD codes 1 0) 87) (eqb (getD codes 2 0) 87) z)
+            cdi true ex y ey false eo true eb d ed h z = clash 2 (eqb-true a 2 eb) (or-right (eqb (getD codes 1 0) 87) (eqb (getD codes 2 0) 87) z)
+            cdi true ex true ey false eo false eb d ed h z = let p : e ≡ 1 = eqb-true e 1 ex in let q : e ≡ 9 = eqb-true e 9 ey in omega (arith, p, q)
+            cdi true ex false ey false eo false eb d ed h z = impossible (cc)
+            cdi false ex true ey o eo b eb true ed h z = clash 10 (eqb-true a 10 ed) z
+            cdi false ex true ey o eo b eb false ed h z = impossible (cc)
+            cdi false ex false ey o eo b eb d ed h z = impossible (cc)
 
-              numeric : textual a ≡ false → ⊥
-              numeric t = number (numbered a s) refl
-                where
-                  number : (o : Option (List ℕ)) → numbered a s ≡ o → ⊥
-                  number none q = let y : codeIn a s ≡ 0 = (unfold codeIn in rw q) in omega (arith, y, c)
-                  number (some v) q =
-                      let o : codeIn a s ≡ codeOf a v = (unfold codeIn in rw q) in
-                      let y : codeOf a v ≡ 87 = sym o ∙ c in
-                      let u : false ≡ true = number-code a v l t ∙ eq-eqb _ _ y in
-                      impossible (cc)
+        numeric : textual a ≡ false → ⊥
+        numeric t = number (numbered a s) refl
+          where
+            number : (o : Option (List ℕ)) → numbered a s ≡ o → ⊥
+            number none q = let y : codeIn a s ≡ 0 = (unfold codeIn in rw q) in omega (arith, y, c)
+            number (some v) q =
+                let o : codeIn a s ≡ codeOf a v = (unfold codeIn in rw q) in
+                let y : codeOf a v ≡ 87 = sym o ∙ c in
+                let u : false ≡ true = number-code a v l t ∙ eq-eqb _ _ y in
+                impossible (cc)
 
-              near : e < 12 → ⊥
-              near b = either (textual a) refl
-                where
-                  row : (not (isIn e a) || (not (textual a) || ((eqb e 1 && (eqb a 1 || eqb a 2)) || (eqb e 9 && eqb a 10)))) ≡ true
-                  row = below 11 (λ a. not (isIn e a) || (not (textual a) || ((eqb e 1 && (eqb a 1 || eqb a 2)) || (eqb e 9 && eqb a 10)))) (below 12 _ for-texts e b) a (omega arith)
+        near : e < 12 → ⊥
+        near b = either (textual a) refl
+          where
+            row : (not (isIn e a) || (not (textual a) || ((eqb e 1 && (eqb a 1 || eqb a 2)) || (eqb e 9 && eqb a 10)))) ≡ true
+            row = below 11 (λ a. not (isIn e a) || (not (textual a) || ((eqb e 1 && (eqb a 1 || eqb a 2)) || (eqb e 9 && eqb a 10)))) (below 12 _ for-texts e b) a (omega arith)
 
-                  either : (t : Bool) → textual a ≡ t → ⊥
-                  either false t = numeric t
-                  either true t = wrong (rw (j, t) at row)
+            either : (t : Bool) → textual a ≡ t → ⊥
+            either false t = numeric t
+            either true t = wrong (rw (j, t) at row)
 
-              far : 12 ≤ e → ⊥
-              far b = no-rules a (rw (none-known e b 0, none-known e b 1, none-known e b 2) at j)
+        far : 12 ≤ e → ⊥
+        far b = no-rules a (rw (none-known e b 0, none-known e b 1, none-known e b 2) at j)

@@ -9,8 +9,6 @@ tag-blame-spec =
     (λ c. search tag-faults)
     (λ c κs. search needs)
     (λ c. search tag-faults)
-    (λ c. search tag-faults)
-    (λ c κs. search needs)
     (λ c κs. search needs)
     (λ c. search tag-faults)
     (λ c κs. search needs)

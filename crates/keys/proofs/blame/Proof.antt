@@ -1,13 +1,11 @@
 use borrow.Author.Needs.{needs}
-use Rattle.keys.proofs.Keying.{keying}
+use Rattle.keys.proofs.Keying.{with-keys}
 use Rattle.keys.proofs.blame.Statement.{statement}
 use Rattle.keys.proofs.blame.Tie as tie
 
 pub blame-spec : {M : Type 1} → statement M
 blame-spec =
     tie.close (tie.spec
-    (λ c. search needs)
     (λ c κs. search needs)
-    (λ c. search needs)
-    (λ c. search keying)
-    (λ c. search keying))
+    (λ c κs. search needs)
+    (λ c. search with-keys))

@@ -294,7 +294,7 @@ pub +content+element-spec : {M : Type 1} → statement M
     let name = named .before in
     let known = name .before .before .pre .1 in
     let n = name .element-name .ensures in
-    (rw (wide .wide .ensures) (tag .start-tag .ensures), there .if3 .left, wide .wide .ensures ∙ n .1 .0, listed .entry-of .ensures, omega (arith, n .0 .low), known .6, omega (arith, known .0, known .6), known .4, omega (arith, known .5, fault .begin2 .ensures .2, begun .if4 .left)))
+    (rw (wide .wide .ensures) (tag .start-tag .ensures), there .if3 .left, wide .wide .ensures ∙ n .1 .0, listed .entry-of .ensures, omega (arith, n .0 .low), omega (arith, known .0, known .6), known .4, omega (arith, known .5, fault .begin2 .ensures .2, begun .if4 .left)))
     (λ c. search element-ways)
     (λ c. search element-ways)
     (λ c. search element-ways)

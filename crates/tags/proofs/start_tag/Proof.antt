@@ -10,6 +10,7 @@ start-tag-spec =
     (λ c κs. search needs)
     (λ c. search needs)
     (λ c κs. search needs)
+    (λ c κs. search needs)
     (λ c. search bare-tags)
     (λ c κs. search needs)
     (λ c. search needs))
