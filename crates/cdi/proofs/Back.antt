@@ -24,7 +24,7 @@ use Rattle.cdi.specs.Access.{Window, Value, integer, event, string, Sett
 use Rattle.cdi.proofs.Bytes.{length-bytes, value-of-bytes, complement-fits, uncomplement-complement}
 use Rattle.cdi.specs.Settings.{SettingFits}
 use Rattle.cdi.proofs.Signs.{le-trans}
-use Rattle.cdi.proofs.Tests.{parts, ends, in-range}
+use Rattle.cdi.proofs.Tests.{parts, ends, in-range, neither-left}
 use Rattle.cdi.proofs.Zero.{NoZero, zero-at}
 
 -- ── causes ──
@@ -219,10 +219,6 @@ reads : (w : Window) (s : Setting) (v : Value) → firstCause (readCauses w s) �
 unfolding readFrom isAccepted
 reads w s v a b c = rw (a, b, c)
 
-neither : (x y : Bool) → (x || y) ≡ false → x ≡ false
-neither true y e = e
-neither false y e = refl
-
 -- what an accepted write does to the window
 module _ (b : List ℕ) (t : List ℤ) (n : ℕ) (w : Window) (v : Value) (s : Setting) (found : settingOf b t n ≡ accepted s) (e : written b t n w v ≡ accepted tt) where
   at : ℕ
@@ -277,7 +273,7 @@ module _ (b : List ℕ) (t : List ℤ) (n : ℕ) (w : Window) (v : Value) (s : S
 
   can-read : firstCause (readCauses (holding w (windowAfter b t n w v)) s) ≡ accepted tt
   unfolding readCauses firstCause isInside holding isFloat
-  can-read = rw (neither (eqb (s .variable .kind) 6) (isMappedEvent s) (all-passed .allowed), same-length, all-passed .inside)
+  can-read = rw (neither-left (eqb (s .variable .kind) 6) (isMappedEvent s) (all-passed .allowed), same-length, all-passed .inside)
 
   own-bytes : ownBytes (holding w (windowAfter b t n w v)) (s .variable) ≡ stored (s .variable .size) v
   unfolding ownBytes holding startIn

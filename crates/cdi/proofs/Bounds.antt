@@ -5,7 +5,7 @@ use mathlib.Core.Bool.{Bool, true, false, _&&_}
 use mathlib.Core.Option.{Option, none, some}
 use Prim.Native.Nat.{ℕ}
 use lib.IntN.{ℤ}
-use Rattle.cdi.specs.Lists.{ascii, given, isEmpty, any, all, same, among, lists-page}
+use Rattle.cdi.specs.Lists.{ascii, given, isEmpty, same, among, lists-page}
 use Rattle.cdi.specs.Faults.{unless}
 use Rattle.cdi.specs.Pieces.{Attribute}
 use Rattle.cdi.specs.Tree.{Nodes, end, element, other}

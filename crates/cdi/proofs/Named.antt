@@ -38,21 +38,20 @@ attributes-behind p at zero (x ∷ s) h = by (blank x) (attributeAt (after blank
 -- ── their faults ──
 
 -- none of the faults speaks beside one of that number at p
-Silent : ℕ → ℕ → List Fault → Type 0
+abbrev pub Silent : ℕ → ℕ → List Fault → Type 0
 Silent m p fs = lesser (some (fault m p)) (least fs) ≡ some (fault m p)
 
 module _ (m p : ℕ) where
-  silent-none : Silent m p []
-  unfolding Silent least lesser
+  pub silent-none : Silent m p []
+  unfolding least lesser
   silent-none = refl
 
   silent-unless : (t : Bool) (n q : ℕ) → p < q → Silent m p (unless t (fault n q))
-  unfolding Silent unless least lesser before
+  unfolding unless least lesser before
   silent-unless true n q h = refl
   silent-unless false n q h = rw (lt-ltb p q h)
 
-  silent-append : (fs gs : List Fault) → Silent m p fs → Silent m p gs → Silent m p (fs ++ gs)
-  unfolding Silent
+  pub silent-append : (fs gs : List Fault) → Silent m p fs → Silent m p gs → Silent m p (fs ++ gs)
   silent-append fs gs e f =
       ap (lesser (some (fault m p))) (least-append fs gs) ∙ sym (lesser-assoc (some (fault m p)) (least fs) (least gs)) ∙ ap (λ (o : Option Fault). lesser o (least gs)) e ∙ f
 
@@ -73,7 +72,7 @@ module _ (m p : ℕ) where
       by false e = e
 
   -- The faults at names that stand behind p don't speak beside one at p.
-  pub names-silent : (rules : List AttributeRule) (s : List Attribute) → Behind (p + 1) s → lesser (some (fault m p)) (least (namesFaults rules s)) ≡ some (fault m p)
-  unfolding namesFaults Behind Silent
+  pub names-silent : (rules : List AttributeRule) (s : List Attribute) → Behind (p + 1) s → Silent m p (namesFaults rules s)
+  unfolding namesFaults Behind
   names-silent rules [] h = silent-none
   names-silent rules (a ∷ s) h = silent-append (nameFaults rules a) (namesFaults rules s) (name-silent rules a (omega (arith, h .0))) (names-silent rules s (h .1))

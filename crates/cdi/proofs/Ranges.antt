@@ -9,7 +9,7 @@ use native.Mathlib.Omega.{arith}
 use borrow.Author.Tests.{leb-true}
 use lib.Dec.{leb}
 use lib.IntN.{ℤ, pos, negsuc}
-use Rattle.cdi.specs.Lists.{ascii, given, _>>=_, same, among, all, lists-page}
+use Rattle.cdi.specs.Lists.{ascii, given, _>>=_, same, among, lists-page}
 use Rattle.cdi.specs.Faults.{Fault, unless}
 use Rattle.cdi.specs.Pieces.{Attribute, Piece, pieces-page}
 use Rattle.cdi.specs.Tree.{Nodes, element, other}

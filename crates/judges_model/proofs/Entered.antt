@@ -1,6 +1,6 @@
 -- Entering a child by its number is entering it by its name.
 use mathlib.Core.Path.{_≡_, refl, sym, ap, _∙_}
-use mathlib.Core.List.{List, [], _∷_, _++_}
+use mathlib.Core.List.{List, [], _∷_}
 use mathlib.Core.Bool.{Bool, true, false, cond, not, _||_}
 use mathlib.Core.Option.{Option, none, some}
 use mathlib.Core.Logic.{⊎-elim}
@@ -14,9 +14,8 @@ use Rattle.cdi.specs.Faults.{Fault, fault, unless, rank, before, lesser, least}
 use Rattle.cdi.specs.Pieces.{Attribute}
 use Rattle.cdi.specs.Rows.{Form, fixed, range, size, formatting, AttributeRule, Row}
 use Rattle.cdi.specs.Rules.{attributeValue, rangeFaults, formFaults, ruleFaults, rulesFaults, namesFaults, attributeFaults}
-use Rattle.cdi.proofs.Least.{lesser-assoc, least-append}
 use Rattle.cdi.proofs.Named
-use Rattle.cdi.proofs.Named.{names-silent}
+use Rattle.cdi.proofs.Named.{Silent, silent-none, silent-append, names-silent}
 use Rattle.scan.proofs.Tests.{eq-or-ne}
 use Rattle.names.specs.Names.{elementNumber}
 use Rattle.rules_judge.specs.declared.Least.{Least}
@@ -31,52 +30,40 @@ use Rattle.judges_state.specs.Steps.{faultsOf, rowIn, tagFaults, turnOf, entere
 
 -- ── the faults of attributes come behind those of order and count ──
 
--- beside one of that number at the tag none of the faults speaks
-Behind : ℕ → ℕ → List Fault → Type 0
-Behind m p fs = lesser (some (fault m p)) (least fs) ≡ some (fault m p)
-
 module _ (m p : ℕ) (low : rank m ≤ 10) where
-  behind-none : Behind m p []
-  unfolding Behind least lesser
-  behind-none = refl
-
-  behind-unless : (t : Bool) (n : ℕ) → leb 10 (rank n) ≡ true → Behind m p (unless t (fault n p))
-  unfolding Behind unless least lesser before
+  behind-unless : (t : Bool) (n : ℕ) → leb 10 (rank n) ≡ true → Silent m p (unless t (fault n p))
+  unfolding unless least lesser before
   behind-unless true n h = refl
   behind-unless false n h = rw (le-ltb p p (omega arith), eq-eqb p p refl, le-leb (rank m) (rank n) (omega (arith, leb-true 10 (rank n) h)))
 
-  behind-append : (fs gs : List Fault) → Behind m p fs → Behind m p gs → Behind m p (fs ++ gs)
-  unfolding Behind
-  behind-append fs gs e f = ap (lesser (some (fault m p))) (least-append fs gs) ∙ sym (lesser-assoc (some (fault m p)) (least fs) (least gs)) ∙ ap (λ (o : Option Fault). lesser o (least gs)) e ∙ f
-
-  range-behind : (test : ℤ → Bool) (o : Option ℤ) → Behind m p (rangeFaults p test o)
+  range-behind : (test : ℤ → Bool) (o : Option ℤ) → Silent m p (rangeFaults p test o)
   unfolding rangeFaults rank between
   range-behind test none = unfold unless in behind-unless false 9 refl
   range-behind test (some z) = behind-unless (test z) 10 refl
 
-  form-behind : (f : Form) (v : List ℕ) → Behind m p (formFaults p f v)
+  form-behind : (f : Form) (v : List ℕ) → Silent m p (formFaults p f v)
   unfolding formFaults rank between
-  form-behind (fixed t) v = behind-none
+  form-behind (fixed t) v = silent-none m p
   form-behind (range lo hi) v = range-behind _ _
   form-behind (size ts) v = behind-unless _ 10 refl
-  form-behind formatting v = behind-none
+  form-behind formatting v = silent-none m p
 
-  rule-behind : (a : AttributeRule) (s : List Attribute) → Behind m p (ruleFaults p a s)
+  rule-behind : (a : AttributeRule) (s : List Attribute) → Silent m p (ruleFaults p a s)
   unfolding ruleFaults
   rule-behind a s = by (attributeValue (a .name) s)
     where
-      by : (o : Option (List ℕ)) → Behind m p (given o (unless (not (a .required)) (fault 86 p)) (formFaults p (a .form)))
+      by : (o : Option (List ℕ)) → Silent m p (given o (unless (not (a .required)) (fault 86 p)) (formFaults p (a .form)))
       by none = unfold rank between in behind-unless (not (a .required)) 86 refl
       by (some v) = form-behind (a .form) v
 
-  rules-behind : (rules : List AttributeRule) (s : List Attribute) → Behind m p (rulesFaults p rules s)
+  rules-behind : (rules : List AttributeRule) (s : List Attribute) → Silent m p (rulesFaults p rules s)
   unfolding rulesFaults
-  rules-behind [] s = behind-none
-  rules-behind (a ∷ rules) s = behind-append (ruleFaults p a s) (rulesFaults p rules s) (rule-behind a s) (rules-behind rules s)
+  rules-behind [] s = silent-none m p
+  rules-behind (a ∷ rules) s = silent-append m p (ruleFaults p a s) (rulesFaults p rules s) (rule-behind a s) (rules-behind rules s)
 
-  attributes-behind : (r : Row) (s : List Attribute) → Named.Behind (p + 1) s → Behind m p (attributeFaults p r s)
-  unfolding attributeFaults Behind
-  attributes-behind r s h = behind-append (rulesFaults p (r .attributes) s) (namesFaults (r .attributes) s) (rules-behind (r .attributes) s) (names-silent m p (r .attributes) s h)
+  attributes-behind : (r : Row) (s : List Attribute) → Named.Behind (p + 1) s → Silent m p (attributeFaults p r s)
+  unfolding attributeFaults
+  attributes-behind r s h = silent-append m p (rulesFaults p (r .attributes) s) (namesFaults (r .attributes) s) (rules-behind (r .attributes) s) (names-silent m p (r .attributes) s h)
 
 -- ── entering ──
 
@@ -102,7 +89,7 @@ module _ (j : Judge) (p : ℕ) (n : List ℕ) (s : List Attribute) (w : Named.Be
   told : (t : Bool) → least (attributeFaults p (rowAt child) s) ≡ o
       → blamed (j .least) (cond t (faultsOf o) (fault (turnNumber (j .last) entry) p ∷ []))
       ≡ blamed (blamed (j .least) (unless t (fault (turnNumber (j .last) entry) p))) (attributeFaults p (rowAt child) s)
-  unfolding unless least lesser Behind
+  unfolding unless least lesser
   told true h = blamed-alike (j .least) (faultsOf o) (attributeFaults p (rowAt child) s) (one-least o ∙ sym h) ∙ ap (λ (l : Least). blamed l (attributeFaults p (rowAt child) s)) (blamed-none (j .least))
   told false h =
       let f = fault (turnNumber (j .last) entry) p in

@@ -7,7 +7,7 @@ use Prim.Native.Nat.{ℕ, _≤_, _<_, max}
 use native.Mathlib.Omega.{arith}
 use borrow.Author.Tests.{le-ltb, le-leb, ne-eqb}
 use lib.Dec.{eqb}
-use Rattle.cdi.specs.Lists.{isEmpty, all}
+use Rattle.cdi.specs.Lists.{isEmpty}
 use Rattle.cdi.specs.Faults.{unless, least}
 use Rattle.cdi.specs.Pieces.{text}
 use Rattle.cdi.specs.Numbers.{number}

@@ -11,7 +11,7 @@ use borrow.Author.Tests.{eq-eqb, ne-eqb, eqb-true}
 use lib.Dec.{eqb}
 use lib.ListN.{length, drop, getD, drop-of-length-le, List·getD-eq-default}
 use lib.Seq.{drop-drop}
-use Rattle.cdi.specs.Lists.{any, all, same, begins, isEmpty, after}
+use Rattle.cdi.specs.Lists.{any, same, begins, isEmpty, after}
 use Rattle.cdi.specs.Faults.{Fault, fault, lesser, least}
 use Rattle.cdi.specs.Pieces.{Attribute, blank, attributes, tagEnd, bears, twice}
 use Rattle.cdi.specs.Markup.{refers}
@@ -22,14 +22,14 @@ use Rattle.cdi.proofs.Quiet.{impossible, same-equal}
 use Rattle.scan.specs.Spans.{Span}
 use Rattle.scan.proofs.Along.{drop-next}
 use Rattle.scan.proofs.Spans.{span-rest}
-use Rattle.scan.proofs.Tests.{lt-or-le, eq-or-ne}
+use Rattle.scan.proofs.Tests.{lt-or-le}
 use Rattle.keys.specs.Keys.{faultIn}
 use Rattle.keys.proofs.Keying.{no-fault}
 use Rattle.names.specs.Names.{attributeNumber}
 use Rattle.pieces_cuts.specs.Places.{closing, Closes}
 use Rattle.rules_judge.specs.Tables as T
 use Rattle.rules_judge.specs.Judging.{rowAt}
-use Rattle.rules_judge.specs.Tables.{ruleAt, hasNumber, intSize, tables-page}
+use Rattle.rules_judge.specs.Tables.{intSize, tables-page}
 use Rattle.rules_judge.proofs.Below.{all-below, below}
 use Rattle.rules_judge.proofs.Sized.{default-size}
 use Rattle.tally_tag.specs.Numbered.{numbersBy}

@@ -3,7 +3,7 @@ use mathlib.Core.Path.{_≡_, refl, sym, ap, _∙_}
 use mathlib.Core.List.{List, [], _∷_, _++_, map, append-assoc, append-nil}
 use mathlib.Core.Bool.{Bool, true, false, cond, not, _&&_, _||_}
 use mathlib.Core.Option.{Option, none, some}
-use mathlib.Core.Logic.{_⊎_, inl, inr, ⊎-elim}
+use mathlib.Core.Logic.{_⊎_, ⊎-elim}
 use Prim.Native.Nat.{ℕ, zero, suc, _+_, _-_, _≤_, _<_}
 use native.Mathlib.Omega.{arith}
 use borrow.Author.Tests.{lt-ltb, le-ltb, le-leb, lt-leb, eq-eqb, ne-eqb, eqb-true, eqb-false, leb-true}
@@ -12,24 +12,22 @@ use lib.Dec.{eqb, ltb, leb}
 use lib.IntN.{ℤ, pos}
 use lib.Signed.{ltZ}
 use lib.ListN.{getD, List·getD-eq-default}
-use Rattle.cdi.specs.Lists.{ascii, given, any, all, same, among, lists-page}
-use Rattle.cdi.specs.Faults.{Fault, fault, unless, rank, before, lesser, least}
+use Rattle.cdi.specs.Lists.{ascii, given, among, lists-page}
+use Rattle.cdi.specs.Faults.{fault, unless, rank, before, lesser, least}
 use Rattle.cdi.specs.Pieces.{Attribute, pieces-page}
 use Rattle.cdi.specs.Numbers.{trimmed, number, within, numbers-page}
 use Rattle.cdi.specs.Rows.{Form, fixed, range, size, formatting, AttributeRule, rows-page}
 use Rattle.cdi.specs.Rules.{attributeValue, rangeFaults, formFaults, ruleFaults, rulesFaults, sizeText}
 use Rattle.cdi.proofs.Least.{least-append}
-use Rattle.cdi.proofs.Quiet.{same-comm}
 use Rattle.scan.proofs.Tests.{lt-or-le, eq-or-ne}
-use Rattle.names.specs.Names.{attributeNumber}
 use Rattle.rules_judge.specs.Judging.{rowAt}
-use Rattle.rules_judge.specs.Tables.{ruleNumbers, ruleOf, ruleAt, attributeOf, isRequired, isOneOf, hasNumber, attributeName, formOf, sizeIn, intSize, tables-page}
+use Rattle.rules_judge.specs.Tables.{ruleNumbers, ruleOf, ruleAt, attributeOf, isRequired, attributeName, formOf, sizeIn, intSize, tables-page}
 use Rattle.rules_judge.proofs.Below.{all-below, below, Below, at-below, alike, alike-equal}
 use Rattle.rules_judge.proofs.Sized.{int-size, float-size}
 use Rattle.rules_judge.proofs.Tabled.{row-rules}
-use Rattle.tags_values.specs.Codes.{textual, rangeCode, formCode, codeFaults, ruleFor, codeOf, numbered, codeIn}
+use Rattle.tags_values.specs.Codes.{textual, rangeCode, formCode, codeFaults, ruleFor, codeOf, codeIn}
 use Rattle.tags_values.proofs.Formed.{form-codes, code-high}
-use Rattle.tags_values.proofs.Numbered.{by-number, numbered-named}
+use Rattle.tags_values.proofs.Numbered.{numbered-named}
 use Rattle.tags_faults.specs.Told.{lesserOf, ownBy, neededBy, thereBy, intBy, floatBy, ruleBy, rulesBy, Coded, faultsAt}
 
 -- ── the code of a form says its faults ──

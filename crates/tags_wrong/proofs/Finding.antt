@@ -1,8 +1,8 @@
 -- The first wrong attribute: each way through the loop.
 use mathlib.Core.Path.{_≡_, refl, sym, ap, _∙_}
-use mathlib.Core.List.{List, [], _∷_, _++_}
-use mathlib.Core.Bool.{Bool, true, false, cond, _||_}
-use mathlib.Core.Option.{Option, none, some}
+use mathlib.Core.List.{List, _∷_}
+use mathlib.Core.Bool.{Bool, true, false, _||_}
+use mathlib.Core.Option.{none, some}
 use mathlib.Core.Logic.{_⊎_, inl, inr, ⊎-elim}
 use Prim.Native.Nat.{ℕ, _+_, _≤_, _<_}
 use native.Mathlib.Omega.{arith}
@@ -17,6 +17,7 @@ use Rattle.cdi.specs.Rules.{nameFaults, namesFaults}
 use Rattle.cdi.proofs.Least.{least-append}
 use Rattle.cdi.proofs.Named.{attributes-behind, names-silent}
 use Rattle.cdi.proofs.Quiet.{impossible}
+use Rattle.cdi.proofs.Tests.{neither-left, neither-right}
 use Rattle.scan.proofs.Tests.{eq-or-ne}
 use Rattle.keys.specs.Keys.{faultIn}
 use Rattle.keys.proofs.Keying.{no-fault}
@@ -33,7 +34,7 @@ use Rattle.tags_values.proofs.Numbered.{front-code, behind-code}
 use Rattle.tags_faults.specs.Told.{knownSet, hasBit, Coded, faultsAt}
 use Rattle.tags_faults.proofs.Ruled.{bit-known}
 use Rattle.tags_wrong.specs.Named.{textsBy, nameBy}
-use Rattle.tags_wrong.proofs.Naming.{or-left, or-right, other-none, name-told, in-there}
+use Rattle.tags_wrong.proofs.Naming.{other-none, name-told, in-there}
 
 -- ── a wrong text ──
 
@@ -174,8 +175,8 @@ module _ {s : List ℕ} {at e set i : ℕ} {codes : List ℕ} {a : Places} (w : 
       passed y = record {
         knows = w .knows;
         left = onward ∙ rw y;
-        holds = holds-next (attributeOf s a) xs held (or-left (any (bears (part s (a .name) (a .behind))) xs) (twice xs) apart);
-        once = or-right (any (bears (part s (a .name) (a .behind))) xs) (twice xs) apart;
+        holds = holds-next (attributeOf s a) xs held (neither-left (any (bears (part s (a .name) (a .behind))) xs) (twice xs) apart);
+        once = neither-right (any (bears (part s (a .name) (a .behind))) xs) (twice xs) apart;
         high = v .ordered .high;
       }
 
