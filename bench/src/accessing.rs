@@ -1,64 +1,11 @@
 //! Writing and reading: a call of each, and of the inner ones once text and table are known, beside planning the same text. All of them are proved.
 
 use crate::answers::lent;
-use crate::planning::{number, proved, ROOM};
-use crate::{stack, texts, timed_list};
+use crate::planning::{number, ROOM};
+use crate::proved::{self, At, Of};
+use crate::{stack, texts};
 use std::hint::black_box;
 use std::time::Instant;
-
-extern "C" {
-    fn timed_check(text: *const u8, length: usize, table: *const i64, numbers: usize) -> usize;
-    fn timed_write(
-        text: *const u8,
-        length: usize,
-        table: *const i64,
-        numbers: usize,
-        n: u64,
-        space: u64,
-        first: u64,
-        window: *mut u8,
-        bytes: usize,
-        magnitude: u64,
-    ) -> usize;
-    fn timed_read(
-        text: *const u8,
-        length: usize,
-        table: *const i64,
-        numbers: usize,
-        n: u64,
-        space: u64,
-        first: u64,
-        window: *const u8,
-        bytes: usize,
-        magnitude: &mut u64,
-    ) -> usize;
-    fn timed_write_known(
-        text: *const u8,
-        length: usize,
-        end: usize,
-        table: *const i64,
-        numbers: usize,
-        n: u64,
-        space: u64,
-        first: u64,
-        window: *mut u8,
-        bytes: usize,
-        magnitude: u64,
-    ) -> usize;
-    fn timed_read_known(
-        text: *const u8,
-        length: usize,
-        end: usize,
-        table: *const i64,
-        numbers: usize,
-        n: u64,
-        space: u64,
-        first: u64,
-        window: *const u8,
-        bytes: usize,
-        magnitude: &mut u64,
-    ) -> usize;
-}
 
 /// More variables than the texts have.
 const MOST: usize = 10_000;
@@ -83,63 +30,52 @@ struct Place {
     first: u64,
 }
 
+impl Place {
+    fn at(self) -> At {
+        At { n: self.n, space: self.space, first: self.first }
+    }
+}
+
 impl Known {
     fn new(text: Vec<u8>) -> Known {
         let mut table = lent(ROOM);
-        let counts = proved(&text, &mut table).expect("a plan");
+        let counts = proved::plan(&text, &mut table).expect("a plan");
         table.truncate(8 * counts.records);
-        let mut known = Known { text, table, end: 0 };
-        known.end = known.check();
-        assert_eq!(known.end, known.text.len() - 1);
-        known
+        let end = proved::check(&text, &table).expect("the table planned from the text");
+        assert_eq!(end, text.len() - 1);
+        Known { text, table, end }
     }
 
-    /// The end of the content, or 0.
-    fn check(&self) -> usize {
-        let (text, table) = (&self.text, &self.table);
-        unsafe { timed_check(text.as_ptr(), text.len(), table.as_ptr(), table.len()) }
+    /// To be checked by each call.
+    fn unchecked(&self) -> Of<'_> {
+        Of { text: &self.text, table: &self.table, end: None }
     }
 
-    /// Writes, and tells the number of a refusal or 0.
-    fn write(&self, Place { n, space, first, .. }: Place, window: &mut [u8], value: u64) -> usize {
-        let (text, table) = (&self.text, &self.table);
-        let (held, bytes) = (window.as_mut_ptr(), window.len());
-        let (from, length, rows, numbers) = (text.as_ptr(), text.len(), table.as_ptr(), table.len());
-        unsafe { timed_write(from, length, rows, numbers, n, space, first, held, bytes, value) }
+    /// As it has been checked.
+    fn checked(&self) -> Of<'_> {
+        Of { end: Some(self.end), ..self.unchecked() }
     }
 
-    /// The same without the check.
-    fn write_known(&self, Place { n, space, first, .. }: Place, window: &mut [u8], value: u64) -> usize {
-        let (text, end, table) = (&self.text, self.end, &self.table);
-        let (held, bytes) = (window.as_mut_ptr(), window.len());
-        let (from, length, rows, numbers) = (text.as_ptr(), text.len(), table.as_ptr(), table.len());
-        unsafe { timed_write_known(from, length, end, rows, numbers, n, space, first, held, bytes, value) }
+    fn write(&self, place: Place, window: &mut [u8], value: u64) -> usize {
+        proved::write(self.unchecked(), place.at(), window, value)
     }
 
-    /// The number of a refusal or 0, and the magnitude.
-    fn read(&self, Place { n, space, first, .. }: Place, window: &[u8]) -> (usize, u64) {
-        let (text, table, mut value) = (&self.text, &self.table, 0);
-        let (held, bytes) = (window.as_ptr(), window.len());
-        let (from, length, rows, numbers) = (text.as_ptr(), text.len(), table.as_ptr(), table.len());
-        let told = unsafe { timed_read(from, length, rows, numbers, n, space, first, held, bytes, &mut value) };
-        (told, value)
+    fn write_known(&self, place: Place, window: &mut [u8], value: u64) -> usize {
+        proved::write(self.checked(), place.at(), window, value)
     }
 
-    /// The same without the check.
-    fn read_known(&self, Place { n, space, first, .. }: Place, window: &[u8]) -> (usize, u64) {
-        let (text, end, table, mut value) = (&self.text, self.end, &self.table, 0);
-        let (held, bytes) = (window.as_ptr(), window.len());
-        let (from, length, rows, numbers) = (text.as_ptr(), text.len(), table.as_ptr(), table.len());
-        let told =
-            unsafe { timed_read_known(from, length, end, rows, numbers, n, space, first, held, bytes, &mut value) };
-        (told, value)
+    fn read(&self, place: Place, window: &[u8]) -> (usize, u64) {
+        proved::read(self.unchecked(), place.at(), window)
+    }
+
+    fn read_known(&self, place: Place, window: &[u8]) -> (usize, u64) {
+        proved::read(self.checked(), place.at(), window)
     }
 
     /// The first int of this size, from the middle of all variables on, that accepts the value.
     fn chosen(&self, size: usize, value: u64) -> Place {
-        let table = &self.table;
         let mut rows = vec![0; 5 * MOST];
-        let all = unsafe { timed_list(table.as_ptr(), table.len(), 0, rows.as_mut_ptr(), rows.len()) };
+        let all = proved::list(&self.table, 0, &mut rows);
         let place = |n: usize| {
             let [_, space, address, wide, kind] = rows[5 * n..5 * n + 5] else { unreachable!() };
             let first = address.saturating_sub(BEFORE);
@@ -190,8 +126,8 @@ fn call(name: &str, known: &Known, at: Place, value: u64, calls: usize) -> f64 {
     let mut table = lent(ROOM);
     let known = black_box(known);
     match name {
-        "plan" => time(calls, || proved(&known.text, black_box(&mut table))),
-        "check" => time(calls, || known.check()),
+        "plan" => time(calls, || proved::plan(&known.text, black_box(&mut table))),
+        "check" => time(calls, || proved::check(&known.text, &known.table)),
         "write" => time(calls, || known.write(at, black_box(&mut held), value)),
         "read" => time(calls, || known.read(at, black_box(&held))),
         "inner write" => time(calls, || known.write_known(at, black_box(&mut held), value)),

@@ -6,33 +6,19 @@ mod characters;
 mod gate;
 mod growth;
 mod kinds;
+mod library;
 mod plain;
 mod planner;
 mod planning;
 mod print;
 mod printing;
+mod proved;
 mod refusing;
 mod stack;
 mod texts;
 
 use std::hint::black_box;
 use std::time::Instant;
-
-extern "C" {
-    fn timed_locate(table: *const i64, length: usize, n: u64) -> u64;
-    fn timed_find(table: *const i64, length: usize, n: u64) -> u64;
-    fn timed_list(table: *const i64, length: usize, n: u64, out: *mut u64, room: usize) -> usize;
-}
-
-/// The address of variable n of any table.
-fn proved_locate(table: &[i64], n: u64) -> u64 {
-    unsafe { timed_locate(table.as_ptr(), table.len(), n) }
-}
-
-/// The address of variable n of a plan.
-fn proved_find(table: &[i64], n: u64) -> u64 {
-    unsafe { timed_find(table.as_ptr(), table.len(), n) }
-}
 
 #[inline(never)]
 fn plain_find(table: &[i64], n: u64) -> u64 {
@@ -136,8 +122,24 @@ fn tell(what: &str, each: usize, (proved, plain): (f64, f64)) {
     println!("{what}: proved {:.2} ns, plain {:.2} ns, ratio {:.2}", proved * per, plain * per, proved / plain);
 }
 
+/// Tables of 1,000,000 variables.
+fn long() -> [(&'static str, Vec<i64>); 3] {
+    [
+        ("100,000 copies of 10", table(vec![Item::Group(0, 100_000, (0..10).map(|k| Item::Int(k % 2, 2)).collect())])),
+        ("1,000,000 copies of 1", table(vec![Item::Group(0, 1_000_000, vec![Item::Int(0, 4)])])),
+        (
+            "three levels of groups",
+            table(vec![Item::Group(
+                1,
+                1000,
+                vec![Item::Group(2, 50, vec![Item::Group(0, 5, (0..4).map(|_| Item::Int(1, 2)).collect())])],
+            )]),
+        ),
+    ]
+}
+
 fn main() {
-    if planning::asked() || accessing::asked() || characters::asked() || print::asked() {
+    if planning::asked() || accessing::asked() || library::asked() || characters::asked() || print::asked() {
         return;
     }
     let wide = || (0..40).map(|k| Item::Int(k % 3, [1, 2, 4, 8][k as usize % 4])).collect::<Vec<_>>();
@@ -160,33 +162,21 @@ fn main() {
         let all = count(t);
         let asked: Vec<u64> = (0..1000u64).map(|k| k.wrapping_mul(0x9e3779b97f4a7c15) % all).collect();
         for &n in asked.iter().chain(&[0, all - 1, all, u64::MAX >> 1]) {
-            assert_eq!(proved_find(t, n), plain_find(t, n), "{name} {n}");
-            assert_eq!(proved_locate(t, n), plain_locate(t, n), "{name} {n}");
+            assert_eq!(proved::find(t, n), plain_find(t, n), "{name} {n}");
+            assert_eq!(proved::locate(t, n), plain_locate(t, n), "{name} {n}");
         }
-        tell(&format!("inner walk, {name}"), asked.len(), in_turns(t, &asked, proved_find, plain_find, 400));
+        tell(&format!("inner walk, {name}"), asked.len(), in_turns(t, &asked, proved::find, plain_find, 400));
         let few = &asked[..50];
-        tell(&format!("locate, {name}"), few.len(), in_turns(t, few, proved_locate, plain_locate, 100));
+        tell(&format!("locate, {name}"), few.len(), in_turns(t, few, proved::locate, plain_locate, 100));
     }
-    let long = [
-        ("100,000 copies of 10", table(vec![Item::Group(0, 100_000, (0..10).map(|k| Item::Int(k % 2, 2)).collect())])),
-        ("1,000,000 copies of 1", table(vec![Item::Group(0, 1_000_000, vec![Item::Int(0, 4)])])),
-        (
-            "three levels of groups",
-            table(vec![Item::Group(
-                1,
-                1000,
-                vec![Item::Group(2, 50, vec![Item::Group(0, 5, (0..4).map(|_| Item::Int(1, 2)).collect())])],
-            )]),
-        ),
-    ];
-    for (name, t) in &long {
+    for (name, t) in &long() {
         assert!(plain::is_plan(t), "{name}");
         let all = count(t) as usize;
         assert_eq!(all, 1_000_000);
         let mut mine = vec![0u64; all * 5];
         let mut theirs = vec![0u64; all * 5];
         let times = least(
-            || assert_eq!(unsafe { timed_list(t.as_ptr(), t.len(), 0, mine.as_mut_ptr(), all * 5) }, all),
+            || assert_eq!(proved::list(t, 0, &mut mine), all),
             || assert_eq!(plain::list(t, &mut theirs), all),
             40,
         );
@@ -198,7 +188,7 @@ fn main() {
             || {
                 let mut n = 0;
                 while n < all {
-                    n += unsafe { timed_list(t.as_ptr(), t.len(), n as u64, batch.as_mut_ptr(), 256 * 5) };
+                    n += proved::list(t, n as u64, &mut batch);
                     sum += batch[0];
                 }
             },

@@ -2,35 +2,13 @@
 
 use crate::answers::{answer_all, lent};
 use crate::planner::{self, Counts, Refusal};
+use crate::proved::plan as proved;
 use crate::{gate, growth, refusing, stack, texts};
 use std::hint::black_box;
 use std::time::Instant;
 
-extern "C" {
-    fn timed_plan(
-        text: *const u8,
-        length: usize,
-        table: *mut i64,
-        room: usize,
-        first: &mut usize,
-        variables: &mut u64,
-    ) -> usize;
-}
-
 pub type Answer = Result<Counts, Refusal>;
 type Planner = fn(&[u8], &mut [i64]) -> Answer;
-
-/// The proved planner.
-pub fn proved(text: &[u8], table: &mut [i64]) -> Answer {
-    let (mut first, mut variables) = (0, 0);
-    let number =
-        unsafe { timed_plan(text.as_ptr(), text.len(), table.as_mut_ptr(), table.len(), &mut first, &mut variables) };
-    if number == 0 {
-        Ok(Counts { records: first, variables })
-    } else {
-        Err(Refusal { number: number as u8, place: first })
-    }
-}
 
 /// The plain one, kept a call of its own as the proved one is.
 #[inline(never)]

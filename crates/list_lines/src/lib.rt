@@ -1,7 +1,7 @@
 // The lines of a plan's variables from one on.
 
 use lines::put_lines;
-use listing::list;
+use listing::list_known;
 ghost use mathlib.Core.Path.{_≡_};
 ghost use mathlib.Core.Bool.{true};
 ghost use mathlib.Core.List.{[]};
@@ -25,7 +25,7 @@ pub fn lines_from(table: &[i64], n: u64, numbers: &mut [u64], out: &mut [u8]) ->
     ensures all { λ r. ⌜ r .count ≡ length (batch (walk (segmentsOf (now (table .entry)))) n (now (numbers .entry))) ⌝ }
     ensures ends { λ r. ⌜ (r .size ≤ length (now (out .entry))) × (r .count ≤ length (now (numbers .entry))) ⌝ }
 {
-    let count = list(table, n, numbers);
+    let count = list_known(table, n, numbers);
     let size = put_lines(out, n, numbers, count);
     Batch { count, size }
 }

@@ -1,6 +1,7 @@
 // The variables of a plan, many at a time, for a program that lists them all: a batch walks down to its first variable once and then
 // goes on from one to the next, copy after copy, so that skipped records are paid for once a batch.
 
+use locate_plan::is_plan;
 use locate_rows::CHANGE;
 use locate_rows::COUNT;
 use locate_rows::EXTRA;
@@ -22,8 +23,15 @@ ghost use Rattle.cdi.specs.Rules.{natural};
 ghost use Rattle.cdi.specs.Walk.{walk};
 ghost use Rattle.cdi.specs.Plans.{field, segmentsOf, isPlan};
 ghost use Rattle.locate_ways.specs.Finding.{Site};
-ghost use Rattle.listing.specs.Batch.{batch, listed};
+ghost use Rattle.listing.specs.Batch.{batch, listed, listing, outAfter};
 ghost use Rattle.listing.specs.Filling.{foundAt, put, filling, fill, copiesMet, elementMet, Copying};
+ghost use Rattle.listing.specs.Told.{listingOf};
+
+// How many variables were listed, or the refusal: 20 for `NotAPlan`.
+pub enum Listing {
+    Count(usize),
+    NotAPlan,
+}
 
 // A variable fills five numbers: record, space, address, size, kind.
 const EACH: usize = 5;
@@ -143,8 +151,9 @@ fn fill_copies(
     k
 }
 
-// Fills the slice with the variables n, n + 1, .. of a plan, five numbers each, as many as it has room for or remain, and returns how many.
-pub fn list(table: &[i64], n: u64, out: &mut [u64]) -> usize
+// Fills the slice with the variables n, n + 1, .. of a table that is known to be a plan, five numbers each, as many as it has room for or remain,
+// and returns how many.
+pub fn list_known(table: &[i64], n: u64, out: &mut [u64]) -> usize
     requires { ⌜ isPlan (now table) ≡ true ⌝ }
     ensures { λ r. ⌜ r ≡ length (batch (walk (segmentsOf (now (table .entry)))) n (now (out .entry))) ⌝ }
     ensures { λ r. ⌜ now (out .exit) ≡ listed (walk (segmentsOf (now (table .entry)))) n (now (out .entry)) ⌝ }
@@ -169,4 +178,16 @@ pub fn list(table: &[i64], n: u64, out: &mut [u64]) -> usize
         i = next;
     }
     k
+}
+
+// The same of any table; one that is no plan leaves the slice as it was.
+pub fn list(table: &[i64], n: u64, out: &mut [u64]) -> Listing
+    ensures answer { λ r. ⌜ listingOf r ≡ listing (now (table .entry)) n (now (out .entry)) ⌝ }
+    ensures after { λ _. ⌜ now (out .exit) ≡ outAfter (now (table .entry)) n (now (out .entry)) ⌝ }
+{
+    if !is_plan(table) {
+        return Listing::NotAPlan;
+    }
+    let count = list_known(table, n, out);
+    Listing::Count(count)
 }

@@ -20,7 +20,7 @@ use Rattle.cdi.specs.Table.{tableOf, sameTable}
 use Rattle.cdi.specs.Plans.{placeOf, isPlan, segmentsOf, variableOf, locating}
 use Rattle.cdi.specs.Planning.{Description, described}
 use Rattle.cdi.specs.Access.{Window, Value, string, Setting, contentAt, exact, settingIn, settingOf, isInside, isFloat, firstCause, writeCauses, written, Reading, ownBytes, textIn, valueIn, readCauses, readFrom, read}
-use Rattle.cdi.proofs.Quiet.{impossible, same-refused, through}
+use Rattle.cdi.proofs.Quiet.{impossible, same-refused, through, test-passed}
 use Rattle.cdi.proofs.PlanOf.{same-table, table-itself}
 use Rattle.cdi.proofs.Back.{Passed, passed}
 use Rattle.cdi.proofs.Promises.{nth-is, nth-none, count-is}
@@ -29,6 +29,7 @@ use Rattle.locate.specs.declared.Located.{Located}
 use Rattle.locate.specs.declared.Located.the-variants.{NotAPlan, NoVariable}
 use Rattle.locate.proofs.Once.{one-case}
 use Rattle.access_kinds.specs.Told.{windowOf}
+use Rattle.access_lookup.specs.Told.{endIn, knownOf}
 use Rattle.access_writing.specs.Told.{writtenOf}
 use Rattle.access_writing.specs.declared.Written.{Written}
 use Rattle.access_writing.specs.declared.Written.the-variants as write
@@ -126,81 +127,92 @@ module _ (b : List ℕ) (t : List ℤ) (n : ℕ) where
 abbrev told-as : Window → Setting → Value → Reading
 told-as w s v = record { value = v; writable = isAccepted (firstCause (writeCauses w v s)) }
 
+-- those of a variable that is there have place 0
+abbrev OfVariable : ℕ → ℕ → ℕ → Type 0
+OfVariable hi m p = (22 ≤ m) × (m ≤ hi) × (p ≡ 0)
+
+same-number : {A : Type 0} {m p k : ℕ} → _≡_ {A = Answer A} (refused (fault k 0)) (refused (fault m p)) → (m ≡ k) × (p ≡ 0)
+same-number {A} {m} {p} {k} e = let z : fault m p ≡ fault k 0 = cc in (ap (λ (x : Fault). x .number) z, ap (λ (x : Fault). x .place) z)
+
 module _ {m p : ℕ} where
-  first-number : {P : Type 0} (x : Bool) (k : ℕ) (cs : List (Bool × ℕ)) → firstCause ((x, k) ∷ cs) ≡ refused (fault m p) → (m ≡ k → P) → (firstCause cs ≡ refused (fault m p) → P) → P
+  first-number : {P : Type 0} (x : Bool) (k : ℕ) (cs : List (Bool × ℕ)) → firstCause ((x, k) ∷ cs) ≡ refused (fault m p) → ((m ≡ k) × (p ≡ 0) → P) → (firstCause cs ≡ refused (fault m p) → P) → P
   unfolding firstCause
-  first-number true k cs e f g = f (number-of e)
-    where
-      number-of : _≡_ {A = Answer (Unit {0})} (refused (fault k 0)) (refused (fault m p)) → m ≡ k
-      number-of e = let z : fault m p ≡ fault k 0 = cc in ap (λ (x : Fault). x .number) z
+  first-number true k cs e f g = f (same-number e)
   first-number false k cs e f g = g e
 
   no-cause : {P : Type 0} → firstCause [] ≡ refused (fault m p) → P
   unfolding firstCause
   no-cause e = impossible (cc)
 
-  write-own : (w : Window) (v : Value) (s : Setting) → firstCause (writeCauses w v s) ≡ refused (fault m p) → (22 ≤ m) × (m ≤ 27)
+  write-own : (w : Window) (v : Value) (s : Setting) → firstCause (writeCauses w v s) ≡ refused (fault m p) → OfVariable 27 m p
   unfolding writeCauses
   write-own w v s e =
-      first-number _ 27 _ e (λ k. (omega arith, omega arith)) λ e.
-      first-number _ 22 _ e (λ k. (omega arith, omega arith)) λ e.
-      first-number _ 23 _ e (λ k. (omega arith, omega arith)) λ e.
-      first-number _ 25 _ e (λ k. (omega arith, omega arith)) λ e.
-      first-number _ 24 _ e (λ k. (omega arith, omega arith)) λ e.
-      first-number _ 26 _ e (λ k. (omega arith, omega arith)) λ e.
+      first-number _ 27 _ e (λ k. (omega arith, omega arith, k .1)) λ e.
+      first-number _ 22 _ e (λ k. (omega arith, omega arith, k .1)) λ e.
+      first-number _ 23 _ e (λ k. (omega arith, omega arith, k .1)) λ e.
+      first-number _ 25 _ e (λ k. (omega arith, omega arith, k .1)) λ e.
+      first-number _ 24 _ e (λ k. (omega arith, omega arith, k .1)) λ e.
+      first-number _ 26 _ e (λ k. (omega arith, omega arith, k .1)) λ e.
       no-cause e
 
-  read-text : (bytes : List ℕ) → textIn bytes ≡ refused (fault m p) → m ≡ 28
+  read-text : (bytes : List ℕ) → textIn bytes ≡ refused (fault m p) → (m ≡ 28) × (p ≡ 0)
   unfolding textIn
   read-text bytes e = by (zeroFrom 0 bytes) e
     where
-      number-of : _≡_ {A = Answer Value} (refused (fault 28 0)) (refused (fault m p)) → m ≡ 28
-      number-of e = let z : fault m p ≡ fault 28 0 = cc in ap (λ (x : Fault). x .number) z
-
-      either : (x : Bool) (y : Value) → cond x (accepted y) (refused (fault 28 0)) ≡ refused (fault m p) → m ≡ 28
+      either : (x : Bool) (y : Value) → cond x (accepted y) (refused (fault 28 0)) ≡ refused (fault m p) → (m ≡ 28) × (p ≡ 0)
       either true y e = impossible (cc)
-      either false y e = number-of e
+      either false y e = same-number e
 
-      by : (o : Option ℕ) → given o (refused (fault 28 0)) (λ e. cond (isUtf8 (take e bytes)) (accepted (string (take e bytes))) (refused (fault 28 0))) ≡ refused (fault m p) → m ≡ 28
-      by none e = number-of e
+      by : (o : Option ℕ) → given o (refused (fault 28 0)) (λ e. cond (isUtf8 (take e bytes)) (accepted (string (take e bytes))) (refused (fault 28 0))) ≡ refused (fault m p) → (m ≡ 28) × (p ≡ 0)
+      by none e = same-number e
       by (some z) e = either (isUtf8 (take z bytes)) (string (take z bytes)) e
 
-  read-value : (s : Setting) (bytes : List ℕ) → valueIn s bytes ≡ refused (fault m p) → m ≡ 28
+  read-value : (s : Setting) (bytes : List ℕ) → valueIn s bytes ≡ refused (fault m p) → (m ≡ 28) × (p ≡ 0)
   unfolding valueIn
   read-value s bytes e = by (eqb (s .variable .kind) 3) (eqb (s .variable .kind) 4) _ _ e
     where
-      by : (x y : Bool) (z u : Value) → cond x (accepted z) (cond y (textIn bytes) (accepted u)) ≡ refused (fault m p) → m ≡ 28
+      by : (x y : Bool) (z u : Value) → cond x (accepted z) (cond y (textIn bytes) (accepted u)) ≡ refused (fault m p) → (m ≡ 28) × (p ≡ 0)
       by true y z u e = impossible (cc)
       by false true z u e = read-text bytes e
       by false false z u e = impossible (cc)
 
-  read-own : (w : Window) (s : Setting) → readFrom w s ≡ refused (fault m p) → (22 ≤ m) × (m ≤ 28)
+  read-own : (w : Window) (s : Setting) → readFrom w s ≡ refused (fault m p) → OfVariable 28 m p
   unfolding readFrom readCauses
   read-own w s e = by (firstCause (readCauses w s)) refl e
     where
-      given-value : (a : Answer Value) → valueIn s (ownBytes w (s .variable)) ≡ a → (g : Value → Reading) → (a andThen λ v. accepted (g v)) ≡ refused (fault m p) → (22 ≤ m) × (m ≤ 28)
+      given-value : (a : Answer Value) → valueIn s (ownBytes w (s .variable)) ≡ a → (g : Value → Reading) → (a andThen λ v. accepted (g v)) ≡ refused (fault m p) → OfVariable 28 m p
       given-value (accepted v) q g e = impossible (cc)
       given-value (refused x) q g e =
           let z : x ≡ fault m p = cc in
           let k = read-value s (ownBytes w (s .variable)) (rw z at q) in
-          (omega arith, omega arith)
+          (omega arith, omega arith, k .1)
 
-      caused : {x : Fault} → firstCause ((isFloat s, 27) ∷ (not (isInside w (s .variable)), 26) ∷ []) ≡ refused x → x ≡ fault m p → (22 ≤ m) × (m ≤ 28)
+      caused : {x : Fault} → firstCause ((isFloat s, 27) ∷ (not (isInside w (s .variable)), 26) ∷ []) ≡ refused x → x ≡ fault m p → OfVariable 28 m p
       caused {x} q z =
-          first-number _ 27 _ (rw z at q) (λ k. (omega arith, omega arith)) λ e.
-          first-number _ 26 _ e (λ k. (omega arith, omega arith)) λ e.
+          first-number _ 27 _ (rw z at q) (λ k. (omega arith, omega arith, k .1)) λ e.
+          first-number _ 26 _ e (λ k. (omega arith, omega arith, k .1)) λ e.
           no-cause e
 
       by : (a : Answer (Unit {0})) → firstCause ((isFloat s, 27) ∷ (not (isInside w (s .variable)), 26) ∷ []) ≡ a
-          → (a andThen λ u. valueIn s (ownBytes w (s .variable)) andThen λ v. accepted (told-as w s v)) ≡ refused (fault m p) → (22 ≤ m) × (m ≤ 28)
+          → (a andThen λ u. valueIn s (ownBytes w (s .variable)) andThen λ v. accepted (told-as w s v)) ≡ refused (fault m p) → OfVariable 28 m p
       by (accepted u) q e = given-value (valueIn s (ownBytes w (s .variable))) refl _ e
       by (refused x) q e = let z : x ≡ fault m p = cc in caused q z
 
-  access-number : {b : List ℕ} {t : List ℤ} {n : ℕ} {own : Setting → Type 0} (hi : ℕ) → 21 ≤ hi → ((s : Setting) → own s → (22 ≤ m) × (m ≤ hi)) → AccessCause b t n own m p → TextNumber m ⊎ ((20 ≤ m) × (m ≤ hi))
+  access-number : {b : List ℕ} {t : List ℤ} {n : ℕ} {own : Setting → Type 0} (hi : ℕ) → 21 ≤ hi → ((s : Setting) → own s → OfVariable hi m p) → AccessCause b t n own m p → TextNumber m ⊎ ((20 ≤ m) × (m ≤ hi))
   access-number {b} hi l f (why.text e) = inl (described-number b (fault m p) e)
   access-number hi l f (why.table e k q s) = inr (omega arith, omega arith)
   access-number hi l f (why.number e k j q s) = inr (omega arith, omega arith)
   access-number hi l f (why.variable {s = s} e o) = let k = f s o in inr (omega arith, omega arith)
+
+  -- of a text and a table that have been checked, they are from 21 on and have place 0
+  access-checked : {b : List ℕ} {t : List ℤ} {n e : ℕ} {own : Setting → Type 0} (hi : ℕ) → 21 ≤ hi → ((s : Setting) → own s → OfVariable hi m p) → knownOf b t ≡ accepted e → AccessCause b t n own m p
+      → (21 ≤ m) × (m ≤ hi) × (p ≡ 0)
+  unfolding knownOf exact
+  access-checked hi l f h (why.text e) = let z = rw e at h in impossible (cc)
+  access-checked {b} {t} hi l f h (why.table {d = d} e k q s) =
+      through (exact t d) (λ x. accepted (endIn b)) _ (rw e at h) λ x y z. absurd (k (same-table t _ (test-passed (sameTable t (tableOf (d .segments))) (fault 20 0) d x y .0)))
+  access-checked hi l f h (why.number e k j q s) = (omega arith, omega arith, s)
+  access-checked hi l f h (why.variable {s = s} e o) = let k = f s o in (omega arith, omega arith, k .2)
 
 -- ── of the code's answers ──
 
@@ -223,6 +235,9 @@ module _ (b : List ℕ) (t : List ℤ) (n : ℕ) (w : Window) (v : Value) (s : W
 
     pub write-number : s ≡ write.Refused m p → TextNumber m ⊎ ((20 ≤ m) × (m ≤ 27))
     write-number e = access-number 27 (omega arith) (λ x o. write-own w v x o) (write-cause e)
+
+    pub write-checked : {end : ℕ} → knownOf b t ≡ accepted end → s ≡ write.Refused m p → (21 ≤ m) × (m ≤ 27) × (p ≡ 0)
+    write-checked h e = access-checked 27 (omega arith) (λ x o. write-own w v x o) h (write-cause e)
 
   write-passed : s ≡ write.Accepted → (x : Setting) × (settingOf b t n ≡ accepted x) × Passed w v x
   unfolding writtenOf written
@@ -249,6 +264,9 @@ module _ (b : List ℕ) (t : List ℤ) (n space first : ℕ) (bytes : List ℕ) 
 
   pub read-number : q ≡ reading.Refused m p → TextNumber m ⊎ ((20 ≤ m) × (m ≤ 28))
   read-number e = access-number 28 (omega arith) (λ x o. read-own (windowOf space first bytes) x o) (read-cause e)
+
+  pub read-checked : {end : ℕ} → knownOf b t ≡ accepted end → q ≡ reading.Refused m p → (21 ≤ m) × (m ≤ 28) × (p ≡ 0)
+  read-checked h e = access-checked 28 (omega arith) (λ x o. read-own (windowOf space first bytes) x o) h (read-cause e)
 
 -- ── locating in any table ──
 

@@ -116,7 +116,7 @@ module _ (b : List ℕ) (t : List ℤ) {r : Planned} (answer : answerOf r ≡ pl
   abbrev d : Description
   d = describe (tree (cut c)) (tree (cut c))
 
-  described-is : described b ≡ accepted d
+  pub described-is : described b ≡ accepted d
   described-is =
       let f = no-fault in
       counted-described b {c = c} ((((((f .ends, f .allowed, f .opens), f .formed), f .ruled), f .inside), f .counted))
@@ -125,7 +125,7 @@ module _ (b : List ℕ) (t : List ℤ) {r : Planned} (answer : answerOf r ≡ pl
     abbrev plan : List ℤ
     plan = take (8 * n) u
 
-    plan-is : plan ≡ tableOf (told c)
+    pub plan-is : plan ≡ tableOf (told c)
     plan-is = records-in-front b t answer e after ∙ ap (λ (x : List ℕ). tableOf (told x)) same-text
 
     rest-is : drop (8 * n) u ≡ drop (8 * n) t

@@ -5,3 +5,4 @@ pub mod Steps
 pub mod Accesses
 pub mod Calls
 pub mod Page
+pub mod Boundary

@@ -1,62 +1,71 @@
-// The check of a text, the locator, listing, planner, writing and reading under C names, so that bench/ can time them. No part of the library.
+// The end of the content and the check of its characters under C names, so that bench/ can time them. No part of the library.
 
-pub mod accessing; // writing and reading
-pub mod planning; // the planner
-pub mod texts; // the end of the content and its characters
-
-use locate::Located;
+use text::End;
+use text::Place;
+use text::bad_behind;
+use text::bad_character;
+use text::content_end;
+use text::examine;
+use text::is_utf8;
 ghost use mathlib.Core.Path.{_≡_};
-ghost use mathlib.Core.Bool.{true};
 ghost use lib.ListN.{length};
-ghost use Rattle.cdi.specs.Plans.{isPlan, segmentsOf, variableOf, locating};
-ghost use Rattle.cdi.specs.Walk.{walk};
-ghost use Rattle.locate.specs.Answers.{toldOf};
-ghost use Rattle.listing.specs.Batch.{batch, listed};
-ghost use Rattle.timed.specs.Addresses.{addressIn};
+ghost use Rattle.cdi.specs.Text.{badCharacter, isUtf8};
+ghost use Rattle.text.specs.Answers.{endAnswer, ending, placeOf};
+ghost use Rattle.timed.specs.Contents.{placeIn, placeOr, badIn};
 
-// In place of an address, where there is none.
-const NONE: u64 = 18446744073709551615;
-
-// The address of what the locator says.
-fn address_of(told: Located) -> u64
-    ensures { λ r. ⌜ r ≡ addressIn (toldOf told) ⌝ }
+// The place that an end tells, of the zero or of refusal 1.
+fn place_of(end: End) -> usize
+    ensures { λ r. ⌜ r ≡ placeIn (endAnswer end) ⌝ }
 {
-    match told {
-        Located::Variable {
-            record: _,
-            space: _,
-            address,
-            size: _,
-            kind: _,
-        } => address,
-        Located::NotAPlan => NONE,
-        Located::NoVariable => NONE,
+    match end {
+        End::At(place) => place,
+        End::Missing(place) => place,
     }
 }
 
-// The address of variable n of any table.
-#[no_mangle]
-pub extern "C" fn timed_locate(table: &[i64], n: u64) -> u64
-    ensures { λ r. ⌜ r ≡ addressIn (locating (now (table .entry)) n) ⌝ }
+// A place, or another number where there is none.
+fn place_or(bad: Place, other: usize) -> usize
+    ensures { λ r. ⌜ r ≡ placeOr other (placeOf bad) ⌝ }
 {
-    address_of(locate::locate(table, n))
+    match bad {
+        Place::At(place) => place,
+        Place::Nothing => other,
+    }
 }
 
-// The address of variable n of a plan.
+// Where the content ends, or where refusal 1 stands.
 #[no_mangle]
-pub extern "C" fn timed_find(table: &[i64], n: u64) -> u64
-    requires { ⌜ isPlan (now table) ≡ true ⌝ }
-    ensures { λ r. ⌜ r ≡ addressIn (variableOf (segmentsOf (now (table .entry))) n) ⌝ }
+pub extern "C" fn timed_end(text: &[u8]) -> usize
+    ensures { λ r. ⌜ r ≡ placeIn (ending (now (text .entry))) ⌝ }
 {
-    address_of(locate::find(table, n))
+    place_of(content_end(text))
 }
 
-// The variables from n on.
+// The first place where no allowed character stands, or the content's length.
 #[no_mangle]
-pub extern "C" fn timed_list(table: &[i64], n: u64, out: &mut [u64]) -> usize
-    requires { ⌜ isPlan (now table) ≡ true ⌝ }
-    ensures { λ r. ⌜ r ≡ length (batch (walk (segmentsOf (now (table .entry)))) n (now (out .entry))) ⌝ }
-    ensures { λ r. ⌜ now (out .exit) ≡ listed (walk (segmentsOf (now (table .entry)))) n (now (out .entry)) ⌝ }
+pub extern "C" fn timed_characters(content: &[u8]) -> usize
+    ensures { λ r. ⌜ r ≡ placeOr (length (now (content .entry))) (badCharacter (now (content .entry))) ⌝ }
 {
-    listing::list(table, n, out)
+    place_or(bad_character(content), content.len())
+}
+
+// Is it UTF-8?
+#[no_mangle]
+pub extern "C" fn timed_utf8(s: &[u8]) -> bool
+    ensures { λ r. ⌜ r ≡ isUtf8 (now (s .entry)) ⌝ }
+{
+    is_utf8(s)
+}
+
+// Both as planning asks: the first place of the content where no allowed character stands, or its end.
+#[no_mangle]
+pub extern "C" fn timed_content(text: &[u8]) -> usize
+    ensures { λ r. ⌜ r ≡ badIn (now (text .entry)) (ending (now (text .entry))) ⌝ }
+{
+    let told = examine(text);
+    let ends = told.end;
+    match ends {
+        End::Missing(place) => place,
+        End::At(end) => place_or(bad_behind(&text[0..end], told.run), end),
+    }
 }

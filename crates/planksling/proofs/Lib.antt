@@ -1,0 +1,3 @@
+-- The laws of the boundary.
+pub mod Calls
+pub mod Once

@@ -1,0 +1,11 @@
+use borrow.Author.Needs.{needs}
+use Rattle.planksling.proofs.Calls.{told-number, told-value}
+use Rattle.planksling.proofs.locating.planksling_locate_checked.Statement.{statement}
+use Rattle.planksling.proofs.locating.planksling_locate_checked.Tie as tie
+
+pub planksling-locate-checked-spec : {M : Type 1} → statement M
+planksling-locate-checked-spec =
+    tie.close (tie.spec
+    (λ c κs. search needs)
+    (λ c κs. search needs)
+    (λ c. (search (told-number, needs), (search (told-value, needs), (search (told-value, needs), (search (told-value, needs), (search (told-value, needs), search (told-value, needs))))))))

@@ -1,0 +1,11 @@
+use borrow.Author.Needs.{needs}
+use Rattle.planksling.proofs.Calls.{told-number, told-place, told-value}
+use Rattle.planksling.proofs.planning.planksling_check.Statement.{statement}
+use Rattle.planksling.proofs.planning.planksling_check.Tie as tie
+
+pub planksling-check-spec : {M : Type 1} → statement M
+planksling-check-spec =
+    tie.close (tie.spec
+    (λ c κs. search needs)
+    (λ c κs. search needs)
+    (λ c. (search (told-number, needs), (search (told-value, needs), search (told-place, needs)))))

@@ -1,0 +1,12 @@
+use borrow.Author.Needs.{needs}
+use Rattle.planksling.proofs.Calls.{told-number}
+use Rattle.planksling.proofs.writing.planksling_write_text_checked.Statement.{statement}
+use Rattle.planksling.proofs.writing.planksling_write_text_checked.Tie as tie
+
+pub planksling-write-text-checked-spec : {M : Type 1} → statement M
+planksling-write-text-checked-spec =
+    tie.close (tie.spec
+    (λ c κs. search needs)
+    (λ c κs. search needs)
+    (λ c. search needs)
+    (λ c. (search (told-number, needs), search needs)))

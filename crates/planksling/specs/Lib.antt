@@ -1,0 +1,2 @@
+-- The words of the boundary.
+pub mod Answers

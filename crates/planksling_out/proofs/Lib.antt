@@ -1,0 +1,2 @@
+-- The laws of what is handed out.
+pub mod Telling

@@ -1,0 +1,15 @@
+use borrow.Author.Needs.{needs}
+use Rattle.listing.specs.Told.{listingOf}
+use Rattle.planksling_out.specs.Outcomes.{numberIn, valueAfter}
+use Rattle.planksling_out.proofs.Telling.{number-by, value-by}
+use Rattle.planksling_out.proofs.tell_listed.Statement.{statement}
+use Rattle.planksling_out.proofs.tell_listed.Tie as tie
+
+pub tell-listed-spec : {M : Type 1} → statement M
+unfolding numberIn valueAfter listingOf
+tell-listed-spec =
+    tie.close (tie.spec
+    (λ c. search needs)
+    (λ c. search needs)
+    (λ c. (search (number-by listingOf, needs), search (value-by listingOf, needs)))
+    (λ c. (search (number-by listingOf, needs), search (value-by listingOf, needs))))

@@ -1,0 +1,15 @@
+use borrow.Author.Needs.{needs}
+use Rattle.plan_stages.specs.Outlines.{answerOf}
+use Rattle.planksling_out.specs.Outcomes.{numberIn, placeAfter, valueAfter}
+use Rattle.planksling_out.proofs.Telling.{number-by, place-by, value-by}
+use Rattle.planksling_out.proofs.tell_planned.Statement.{statement}
+use Rattle.planksling_out.proofs.tell_planned.Tie as tie
+
+pub tell-planned-spec : {M : Type 1} → statement M
+unfolding numberIn placeAfter valueAfter answerOf
+tell-planned-spec =
+    tie.close (tie.spec
+    (λ c. search needs)
+    (λ c. search needs)
+    (λ c. (search (number-by answerOf, needs), (search (value-by answerOf, needs), (search (value-by answerOf, needs), search (place-by answerOf, needs)))))
+    (λ c. (search (number-by answerOf, needs), (search (value-by answerOf, needs), (search (value-by answerOf, needs), search (place-by answerOf, needs))))))

@@ -1,0 +1,3 @@
+-- What the library hands out.
+pub mod Outcomes
+pub mod Readings
