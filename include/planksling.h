@@ -6,7 +6,8 @@
  *
  * - It returns 0, or the number of the refusal (PLANKSLING_NO_END and so on); planksling_list_checked alone returns how many it listed.
  * - A slice is a pointer and a length: `text, text_length`. A length counts elements: bytes, or 64-bit numbers. A pointer may be null where the length
- *   is 0. Every other pointer must be good, and nothing that is lent for writing, single numbers included, may overlap anything else that is lent.
+ *   is 0. Every other pointer must be good for its length and aligned, that of a number which isn't wanted too. Nothing that is lent for writing,
+ *   single numbers included, may overlap anything else that is lent.
  * - What a call hands out goes through single numbers. An accepted call writes each of them but `place`, which stays as it was. A refused call writes
  *   `place`, where it has one, and leaves the others.
  * - A refused call leaves all lent memory (table, window, out) as it was.
@@ -19,6 +20,10 @@
 
 #include <stddef.h>
 #include <stdint.h>
+
+#if SIZE_MAX != 0xFFFFFFFFFFFFFFFFu
+#error "planksling.h: size_t must have 64 bits"
+#endif
 
 #ifdef __cplusplus
 extern "C" {
@@ -127,7 +132,8 @@ size_t planksling_locate(
 
 /*
  * The variables n, n + 1, .. of a table, as many as `out` has room for or remain. Each takes PLANKSLING_LISTED numbers of `out`: record, space,
- * address, size, kind; what is behind the last one is as it was. Hands out how many they are: 0 where there is no variable n. Refusal: 20.
+ * address, size, kind; what is behind the last one is as it was. Hands out how many they are: 0 where there is no variable n. Refusal: 20. As
+ * planksling_locate, it tests the whole table at each call.
  */
 size_t planksling_list(
     const int64_t *table, size_t table_length,
@@ -231,7 +237,7 @@ size_t planksling_list_checked(
  * They rely on planksling_check having returned 0 for this text and this table, and on `end` being what it handed out; or on the table being the
  * records, all of them and nothing behind them, that planksling_plan has made of this text, and on `end` being the place of the text's first zero
  * byte, which strlen tells. Where neither holds nothing is promised. The place of every refusal would be 0, so none is handed out. The text isn't
- * read as a whole again, so they are fast and need little stack.
+ * read as a whole again: time and stack go by the variable's own element in it.
  */
 
 /* As planksling_write_integer. Refusals: 21 to 24, 26, 27. */

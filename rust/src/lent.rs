@@ -1,4 +1,4 @@
-//! The calls on memory that the caller lends, for programs that keep texts and tables by themselves, without a heap for instance.
+//! The calls on memory that the caller lends, for programs that keep texts and tables by themselves, on the stack for instance.
 //!
 //! Each takes any text and any table and asks nothing of its caller. Writing and reading plan the text again at each call to be sure of the table;
 //! a [`Description`](crate::Description) does that once.

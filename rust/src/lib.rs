@@ -31,9 +31,9 @@
 //!
 //! # Stack
 //!
-//! Planning works on the stack: about 280 KB for a description of 60 KB, and about 540 KB at most, for any text. The calls of [`lent`] that check a
-//! text need as much. A thread of Rust has 2 MB by default; give a smaller one at least 640 KB. Locating, listing, and writing and reading through a
-//! [`Description`] need little.
+//! Planning works on the stack. Measured were 280 KB for a description of 60 KB, and 550 KB at most for any text that was tried; the calls of [`lent`]
+//! that check a text need as much. Writing and reading through a [`Description`] need as much as the variable's own element asks for, 240 KB at most
+//! where its tag is long. A thread of Rust has 2 MB by default; give a smaller one at least 640 KB. `docs/LIBRARY.md` has the figures.
 
 #![deny(missing_docs)]
 #![deny(unsafe_code)]
