@@ -1,0 +1,214 @@
+//! The words of a call.
+
+use crate::ending::Ending;
+use crate::help::Command;
+use crate::safe::shown;
+use std::ffi::{OsStr, OsString};
+use std::os::unix::ffi::OsStrExt;
+use std::path::PathBuf;
+
+/// A call that is well formed.
+pub struct Arguments {
+    pub call: Call,
+    pub json: bool,
+}
+
+pub enum Call {
+    List { file: OsString },
+    Check { file: OsString },
+    Show { file: OsString, number: u64 },
+    Read { file: OsString, number: u64, window: Memory },
+    Write { file: OsString, number: u64, value: String, window: Memory },
+    Help(Option<Command>),
+    Version,
+}
+
+/// A window that is kept in a file. Without a space it is of the variable's own.
+pub struct Memory {
+    pub file: PathBuf,
+    pub space: Option<u64>,
+    pub first: u64,
+}
+
+/// The words of a call, sorted.
+#[derive(Default)]
+struct Words<'a> {
+    /// The command and what it is about.
+    plain: Vec<&'a OsStr>,
+    window: Option<&'a OsStr>,
+    space: Option<&'a OsStr>,
+    first: Option<&'a OsStr>,
+    json: bool,
+    help: bool,
+    version: bool,
+}
+
+/// Reads the words of a call, without the program's name.
+pub fn read(words: &[OsString]) -> Result<Arguments, Ending> {
+    let words = sorted(words)?;
+    let json = words.json;
+    if words.version {
+        return Ok(Arguments { call: Call::Version, json });
+    }
+    let call = if words.help { Call::Help(command_of(words.plain.first())?) } else { words.call()? };
+    Ok(Arguments { call, json })
+}
+
+fn wrong<T>(command: Option<Command>, why: String) -> Result<T, Ending> {
+    Err(Ending::WrongCall(why, command))
+}
+
+/// A word as it may be shown.
+fn told(word: &OsStr) -> String {
+    shown(&word.to_string_lossy())
+}
+
+/// Options and other words apart. A minus with a digit behind it begins a number and no option.
+fn sorted(words: &[OsString]) -> Result<Words<'_>, Ending> {
+    let mut sorted = Words::default();
+    let mut rest = words.iter();
+    while let Some(word) = rest.next() {
+        match word.as_bytes() {
+            b"--" => sorted.plain.extend(rest.by_ref().map(OsString::as_os_str)),
+            b"--json" => sorted.json = true,
+            b"--help" | b"-h" => sorted.help = true,
+            b"--version" => sorted.version = true,
+            [b'-', b'-', ..] => sorted.option(word, &mut rest)?,
+            [b'-', next, ..] if !next.is_ascii_digit() => return unknown(word),
+            _ => sorted.plain.push(word),
+        }
+    }
+    Ok(sorted)
+}
+
+fn unknown<T>(word: &OsStr) -> Result<T, Ending> {
+    wrong(None, format!("there is no option `{}`; put `--` in front of a word that begins with -", told(word)))
+}
+
+/// The command of a word, if there is one.
+fn command_of(word: Option<&&OsStr>) -> Result<Option<Command>, Ending> {
+    let Some(word) = word else { return Ok(None) };
+    match word.to_str().and_then(Command::named) {
+        Some(command) => Ok(Some(command)),
+        None => wrong(None, format!("there is no command `{}`", told(word))),
+    }
+}
+
+impl<'a> Words<'a> {
+    /// Takes an option that has a value: `--window FILE` or `--window=FILE`.
+    fn option(&mut self, word: &'a OsStr, rest: &mut std::slice::Iter<'a, OsString>) -> Result<(), Ending> {
+        let bytes = word.as_bytes();
+        let end = bytes.iter().position(|&byte| byte == b'=').unwrap_or(bytes.len());
+        let name = &bytes[..end];
+        let held = match name {
+            b"--window" => &mut self.window,
+            b"--space" => &mut self.space,
+            b"--first" => &mut self.first,
+            _ => return unknown(word),
+        };
+        let name = told(OsStr::from_bytes(name));
+        if held.is_some() {
+            return wrong(None, format!("{name} stands twice"));
+        }
+        *held = match bytes.get(end + 1..) {
+            Some(value) => Some(OsStr::from_bytes(value)),
+            None => rest.next().map(OsString::as_os_str),
+        };
+        match held {
+            Some(_) => Ok(()),
+            None => wrong(None, format!("{name} needs a value behind it")),
+        }
+    }
+
+    /// The command with what it needs.
+    fn call(&self) -> Result<Call, Ending> {
+        let Some(command) = command_of(self.plain.first())? else {
+            return wrong(None, "no command is given".to_string());
+        };
+        let words = &self.plain[1..];
+        self.suits(command, words)?;
+        let file = || words[0].to_os_string();
+        Ok(match command {
+            Command::List => Call::List { file: file() },
+            Command::Check => Call::Check { file: file() },
+            Command::Show => Call::Show { file: file(), number: number(command, words[1])? },
+            Command::Read => {
+                Call::Read { file: file(), number: number(command, words[1])?, window: self.memory(command)? }
+            }
+            Command::Write => Call::Write {
+                file: file(),
+                number: number(command, words[1])?,
+                value: value(words[2])?,
+                window: self.memory(command)?,
+            },
+            Command::Help => Call::Help(command_of(words.first())?),
+        })
+    }
+
+    /// Has the command all words that it needs, and nothing that it doesn't take?
+    fn suits(&self, command: Command, words: &[&OsStr]) -> Result<(), Ending> {
+        let wanted = command.words();
+        if let Some(missing) = wanted.get(words.len()) {
+            return wrong(Some(command), format!("{} needs {missing}", command.name()));
+        }
+        // help takes a command or none
+        let most = wanted.len().max(1);
+        if let Some(word) = words.get(most) {
+            let quotes = if command == Command::Write { "; a text with blanks is put in quotes" } else { "" };
+            return wrong(Some(command), format!("`{}` is a word too many{quotes}", told(word)));
+        }
+        let options = [("--window", self.window), ("--space", self.space), ("--first", self.first)];
+        match options.iter().find(|(_, value)| value.is_some()) {
+            Some((name, _)) if !command.has_window() => wrong(Some(command), format!("{name} is for read and write")),
+            _ => Ok(()),
+        }
+    }
+
+    fn memory(&self, command: Command) -> Result<Memory, Ending> {
+        let file = match self.window {
+            None => return wrong(Some(command), format!("{} needs --window FILE", command.name())),
+            Some(file) if file == "-" || file.is_empty() => {
+                return wrong(Some(command), "--window needs the name of a file".to_string())
+            }
+            Some(file) => PathBuf::from(file),
+        };
+        let space = self.space.map(|word| address(command, "--space", word)).transpose()?;
+        let first = self.first.map_or(Ok(0), |word| address(command, "--first", word))?;
+        Ok(Memory { file, space, first })
+    }
+}
+
+/// A number of digits alone, in this base. One above 64 bits is the largest of these: no variable, space or address is so large.
+fn digits(word: &str, base: u32) -> Option<u64> {
+    let good = !word.is_empty() && word.chars().all(|c| c.is_digit(base));
+    good.then(|| u64::from_str_radix(word, base).unwrap_or(u64::MAX))
+}
+
+/// The number of a variable.
+fn number(command: Command, word: &OsStr) -> Result<u64, Ending> {
+    match word.to_str().and_then(|word| digits(word, 10)) {
+        Some(number) => Ok(number),
+        None => {
+            wrong(Some(command), format!("`{}` is no number of a variable; they count 0, 1, 2 and so on", told(word)))
+        }
+    }
+}
+
+/// The number of an option, decimal or hexadecimal.
+fn address(command: Command, option: &str, word: &OsStr) -> Result<u64, Ending> {
+    let number = word.to_str().and_then(|word| match word.strip_prefix("0x") {
+        Some(rest) => digits(rest, 16),
+        None => digits(word, 10),
+    });
+    match number {
+        Some(number) => Ok(number),
+        None => wrong(Some(command), format!("{option} needs a number, as 128 or 0x80, and `{}` is none", told(word))),
+    }
+}
+
+fn value(word: &OsStr) -> Result<String, Ending> {
+    match word.to_str() {
+        Some(word) => Ok(word.to_string()),
+        None => wrong(Some(Command::Write), "the value isn't UTF-8".to_string()),
+    }
+}

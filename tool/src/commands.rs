@@ -1,0 +1,164 @@
+//! What each command does.
+
+use crate::arguments::{Call, Memory};
+use crate::description_file::DescriptionFile;
+use crate::ending::Ending;
+use crate::help;
+use crate::json::Object;
+use crate::output::Output;
+use crate::refused::{element, variable_object, Held, Refused};
+use crate::safe::shown;
+use crate::{lines, values, window_file};
+use planksling::{Description, Refusal, Value, Variable, Window};
+use std::ffi::OsStr;
+use std::io::Write;
+
+pub fn run(call: &Call, json: bool, output: &mut Output) -> Result<(), Ending> {
+    match call {
+        Call::List { file } => list(file, json, output),
+        Call::Check { file } => check(file, json, output),
+        Call::Show { file, number } => show(&Setting::find(file, *number)?, json, output),
+        Call::Read { file, number, window } => read(&Setting::find(file, *number)?, window, json, output),
+        Call::Write { file, number, value, window } => {
+            write(&Setting::find(file, *number)?, value, window, json, output)
+        }
+        Call::Help(command) => output.text(&help::text(*command)),
+        Call::Version => output.text(help::VERSION),
+    }
+}
+
+// ── descriptions ──
+
+fn list(file: &OsStr, json: bool, output: &mut Output) -> Result<(), Ending> {
+    let description = DescriptionFile::read(file)?.plan()?;
+    if json {
+        return each(&description, output, lines::put_json);
+    }
+    output.line(&format!("variables {}", description.variable_count()))?;
+    each(&description, output, lines::put_plain)
+}
+
+/// A line for each variable.
+#[inline]
+fn each(description: &Description, output: &mut Output, put: impl Fn(&mut Vec<u8>, &Variable)) -> Result<(), Ending> {
+    for variable in description {
+        output.with(|bytes| put(bytes, &variable))?;
+    }
+    Ok(())
+}
+
+fn check(file: &OsStr, json: bool, output: &mut Output) -> Result<(), Ending> {
+    let file = DescriptionFile::read(file)?;
+    let description = file.plan()?;
+    let (records, variables) = (description.record_count(), description.variable_count());
+    if json {
+        let object = Object::new().text("file", &file.name).plain("records", records).plain("variables", variables);
+        return output.line(&object.finish());
+    }
+    let (records, variables) = (counted(records as u64, "record"), counted(variables, "variable"));
+    output.line(&format!("{}: accepted, {records}, {variables}", file.name))
+}
+
+/// So many of these.
+fn counted(count: u64, word: &str) -> String {
+    format!("{count} {word}{}", if count == 1 { "" } else { "s" })
+}
+
+// ── one variable ──
+
+/// A variable, with the description that has it.
+struct Setting {
+    file: DescriptionFile,
+    description: Description,
+    variable: Variable,
+}
+
+impl Setting {
+    /// Variable n of the description in this file.
+    fn find(file: &OsStr, n: u64) -> Result<Setting, Ending> {
+        let file = DescriptionFile::read(file)?;
+        let description = file.plan()?;
+        match description.variable(n) {
+            Ok(variable) => Ok(Setting { file, description, variable }),
+            Err(refusal) => Err(Ending::Refused(Box::new(Refused::of_the_number(&file, &description, refusal)))),
+        }
+    }
+
+    /// The window in a file, which is of the variable's own space if none is given.
+    fn window(&self, memory: &Memory) -> Result<Window<Vec<u8>>, Ending> {
+        let space = memory.space.unwrap_or(self.variable.space);
+        Ok(Window::new(space, memory.first, window_file::read(&memory.file)?))
+    }
+
+    fn refused(&self, window: &Window<Vec<u8>>, refusal: Refusal) -> Ending {
+        let held = Held { space: window.space, first: window.first, length: window.bytes.len() as u64 };
+        let refused = Refused::of_the_variable(&self.file, &self.description, self.variable, held, refusal);
+        Ending::Refused(Box::new(refused))
+    }
+
+    /// Its number, kind and a value, for a program. The value is a string, so that no reader of JSON rounds it.
+    fn object(&self, value: &Value<'_>) -> Object {
+        let kind = self.variable.kind.name();
+        Object::new().plain("number", self.variable.number).text("kind", kind).text("value", &value.to_string())
+    }
+}
+
+fn show(setting: &Setting, json: bool, output: &mut Output) -> Result<(), Ending> {
+    let Setting { file, description, variable } = setting;
+    let Variable { number, record, space, address, size, kind, .. } = variable;
+    let spot = element(description, variable);
+    if json {
+        let object = variable_object(variable).plain("record", record).text("file", &file.name);
+        let object = object.plain("line", spot.line).plain("column", spot.column);
+        return output.line(&object.text("shown", &spot.shown).plain("mark", spot.before).finish());
+    }
+    output.text(&format!(
+        "variable {number}\n  kind     {kind}\n  space    {space}\n  address  {address} (0x{address:X})\n  size     {}\n  \
+         record   {record}\n{}:{}:{}\n{}",
+        counted(*size as u64, "byte"),
+        file.name,
+        spot.line,
+        spot.column,
+        spot.lines("    ")
+    ))
+}
+
+fn read(setting: &Setting, memory: &Memory, json: bool, output: &mut Output) -> Result<(), Ending> {
+    let window = setting.window(memory)?;
+    let reading = setting
+        .description
+        .read(setting.variable.number, &window)
+        .map_err(|refusal| setting.refused(&window, refusal))?;
+    if json {
+        let object = setting.object(&reading.value).plain("writable", reading.writable);
+        return output.line(&object.finish());
+    }
+    output.line(&shown(&reading.value.to_string()))?;
+    output.flush()?;
+    if !reading.writable {
+        let _ = std::io::stderr().write_all(b"planksling: this value could not be written now\n");
+    }
+    Ok(())
+}
+
+fn write(setting: &Setting, word: &str, memory: &Memory, json: bool, output: &mut Output) -> Result<(), Ending> {
+    let mut window = setting.window(memory)?;
+    let (number, old) = (setting.variable.number, window.bytes.clone());
+    let value = values::value(setting.variable.kind, word);
+    setting.description.write(number, &mut window, &value).map_err(|refusal| setting.refused(&window, refusal))?;
+    let is_new = window.bytes != old;
+    if is_new {
+        window_file::replace(&memory.file, &window.bytes)?;
+    }
+    if json {
+        return output.line(&setting.object(&value).plain("changed", is_new).finish());
+    }
+    let value = match &value {
+        Value::Text(text) => format!("\"{}\"", shown(text)),
+        other => other.to_string(),
+    };
+    output.line(&match is_new {
+        true => format!("variable {number} is now {value}"),
+        false => format!("variable {number} was {value} already"),
+    })
+}

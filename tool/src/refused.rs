@@ -1,0 +1,209 @@
+//! A refusal as a person wants it: file, line and column, the rule, the line itself with a mark under the place, what is wrong and what would mend it.
+
+use crate::description_file::DescriptionFile;
+use crate::json::Object;
+use crate::place::Spot;
+use crate::values;
+use crate::words::words;
+use planksling::{Cause, Description, Refusal, Variable, TEXT_LIMIT};
+
+/// How many columns the words take at most.
+const WIDTH: usize = 80;
+
+/// What is before the line that is shown.
+const INDENT: &str = "    ";
+
+/// The number of a record's field that tells the place of its element.
+const PLACE: usize = 1;
+
+/// A refusal and all that is told of it.
+pub struct Refused {
+    refusal: Refusal,
+    file: String,
+    /// The place in the text; for a refusal that has none that of the variable's element, where there is a variable.
+    spot: Option<Spot>,
+    variable: Option<Variable>,
+    window: Option<Held>,
+    /// What can be said beyond the words of the rule.
+    notes: Vec<String>,
+}
+
+/// What a window has: its space, its first address and how many bytes.
+#[derive(Clone, Copy)]
+pub struct Held {
+    pub space: u64,
+    pub first: u64,
+    pub length: u64,
+}
+
+impl Refused {
+    /// A text that was refused.
+    pub fn of_the_text(file: &DescriptionFile, refusal: Refusal) -> Refused {
+        let content = file.content();
+        let is_end = refusal.place == content.len();
+        let spot = if is_end { Spot::end(content) } else { Spot::new(content, refusal.place) };
+        let notes = text_note(file, refusal).into_iter().collect();
+        Refused { refusal, file: file.name.clone(), spot: Some(spot), variable: None, window: None, notes }
+    }
+
+    /// A number that no variable of the description has.
+    pub fn of_the_number(file: &DescriptionFile, description: &Description, refusal: Refusal) -> Refused {
+        let note = match description.variable_count() {
+            0 => "The description has no variables.".to_string(),
+            1 => "The description has one variable, 0.".to_string(),
+            count => format!("The description has {count} variables, 0 to {}.", count - 1),
+        };
+        Refused { refusal, file: file.name.clone(), spot: None, variable: None, window: None, notes: vec![note] }
+    }
+
+    /// A variable that can't be read or written so.
+    pub fn of_the_variable(
+        file: &DescriptionFile,
+        description: &Description,
+        variable: Variable,
+        window: Held,
+        refusal: Refusal,
+    ) -> Refused {
+        let spot = element(description, &variable);
+        let notes = match refusal.cause {
+            Cause::OtherKind => vec![values::form(variable.kind).to_string()],
+            Cause::OutsideWindow => vec![needed(&variable), window.told()],
+            _ => vec![],
+        };
+        let own = format!("Variable {}: {}.", variable.number, lives(&variable));
+        let notes = std::iter::once(own).chain(notes).collect();
+        let file = file.name.clone();
+        Refused { refusal, file, spot: Some(spot), variable: Some(variable), window: Some(window), notes }
+    }
+
+    /// For a person, in lines.
+    pub fn plain(&self) -> String {
+        let cause = self.refusal.cause;
+        let at = self.spot.as_ref().map_or_else(String::new, |spot| format!(":{}:{}", spot.line, spot.column));
+        let mut told = format!("{}{at}: refused {}: {cause}\n", self.file, cause.number());
+        if let Some(spot) = &self.spot {
+            told.push_str(&spot.lines(INDENT));
+        }
+        let (what, mend) = words(cause);
+        for paragraph in [what, mend].into_iter().chain(self.notes.iter().map(String::as_str)) {
+            told.push_str(&wrapped(paragraph));
+        }
+        told
+    }
+
+    /// The same for a program, in one line.
+    pub fn json(&self) -> String {
+        let cause = self.refusal.cause;
+        let (what, mend) = words(cause);
+        let mut object = Object::new()
+            .plain("refused", cause.number())
+            .text("rule", cause.words())
+            .text("file", &self.file)
+            .plain("place", self.refusal.place);
+        if let Some(spot) = &self.spot {
+            object = object.plain("line", spot.line).plain("column", spot.column);
+            object = object.text("shown", &spot.shown).plain("mark", spot.before);
+        }
+        object = object.text("what", what).text("mend", mend).texts("notes", &self.notes);
+        if let Some(variable) = &self.variable {
+            object = object.object("variable", variable_object(variable));
+        }
+        if let Some(Held { space, first, length }) = self.window {
+            let window = Object::new().plain("space", space).plain("first", first).plain("length", length);
+            object = object.object("window", window);
+        }
+        object.finish()
+    }
+}
+
+impl Held {
+    fn told(self) -> String {
+        let Held { space, first, length } = self;
+        match length {
+            0 => "The window's file is empty.".to_string(),
+            1 => format!("The window's file has one byte of space {space}, at {first}."),
+            _ => {
+                let last = first.saturating_add(length - 1);
+                format!("The window's file has {length} bytes of space {space}, from {first} to {last}.")
+            }
+        }
+    }
+}
+
+/// Where a variable lives, and what it is.
+fn lives(variable: &Variable) -> String {
+    let Variable { space, address, size, kind, .. } = variable;
+    format!("{kind}, size {size}, address {address} (0x{address:X}) of space {space}")
+}
+
+/// The bytes that a window must have to hold a variable.
+fn needed(variable: &Variable) -> String {
+    let Variable { space, address, size, .. } = variable;
+    match size {
+        1 => format!("It needs the byte at {address} of space {space}."),
+        _ => format!("It needs {size} bytes of space {space}, from {address} to {}.", address + *size as u64 - 1),
+    }
+}
+
+/// A variable for a program.
+pub fn variable_object(variable: &Variable) -> Object {
+    Object::new()
+        .plain("number", variable.number)
+        .plain("space", variable.space)
+        .plain("address", variable.address)
+        .plain("size", variable.size)
+        .text("kind", variable.kind.name())
+}
+
+/// The place of a variable's element in the text.
+pub fn element(description: &Description, variable: &Variable) -> Spot {
+    let record = description.table().record(variable.record).expect("a variable has a record");
+    Spot::new(description.text().as_bytes(), record[PLACE] as usize)
+}
+
+/// What a text's bytes tell of its refusal.
+fn text_note(file: &DescriptionFile, Refusal { cause, place }: Refusal) -> Option<String> {
+    let content = file.content();
+    match cause {
+        Cause::NoEnd if file.longer => Some(format!("The file has more than {TEXT_LIMIT} bytes; no more were read.")),
+        Cause::NoEnd => Some(format!("The file has {} bytes.", file.length)),
+        Cause::BadCharacter => content.get(place..).and_then(character_note),
+        _ if file.length == 0 => Some("The file is empty.".to_string()),
+        _ if place == content.len() && place + 1 < file.length => {
+            Some(format!("A zero byte ends the text here; {} bytes behind it were not read.", file.length - place - 1))
+        }
+        _ => None,
+    }
+}
+
+/// Which character or byte these bytes begin with.
+fn character_note(bytes: &[u8]) -> Option<String> {
+    let chunk = bytes.utf8_chunks().next()?;
+    match chunk.valid().chars().next() {
+        Some(c) if c.is_ascii() => Some(format!("The byte here is 0x{:02X}.", u32::from(c))),
+        Some(c) => Some(format!("The character here is U+{:04X}.", u32::from(c))),
+        None => bytes.first().map(|byte| format!("The byte here is 0x{byte:02X}.")),
+    }
+}
+
+/// A paragraph in lines that are no longer than a terminal's.
+fn wrapped(paragraph: &str) -> String {
+    let mut lines = String::new();
+    let mut length = 0;
+    for word in paragraph.split_whitespace() {
+        let word_length = word.chars().count();
+        if 0 < length && WIDTH < length + 1 + word_length {
+            lines.push('\n');
+            length = 0;
+        } else if 0 < length {
+            lines.push(' ');
+            length += 1;
+        }
+        lines.push_str(word);
+        length += word_length;
+    }
+    if !lines.is_empty() {
+        lines.push('\n');
+    }
+    lines
+}

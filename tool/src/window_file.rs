@@ -1,0 +1,103 @@
+//! The file that holds a window: one space of a node's memory, from some address on.
+//!
+//! It is replaced as a whole or not at all. The new bytes go into a file beside it, and only when they are on the disk that file takes the name; so a
+//! crash leaves the old bytes or the new ones under it.
+
+use crate::ending::{reason, Ending};
+use crate::safe::shown;
+use std::fs::{self, File, Metadata, OpenOptions};
+use std::io::{self, Read, Write};
+use std::os::unix::fs::{fchown, MetadataExt, OpenOptionsExt};
+use std::path::{Path, PathBuf};
+
+/// A larger window isn't read.
+const MOST: u64 = 64 << 20;
+
+/// How many names are tried for the file beside.
+const TRIES: u32 = 100;
+
+fn name(file: &Path) -> String {
+    shown(&file.to_string_lossy())
+}
+
+/// The bytes of a window's file.
+pub fn read(file: &Path) -> Result<Vec<u8>, Ending> {
+    let mut bytes = vec![];
+    let read = File::open(file).and_then(|open| open.take(MOST + 1).read_to_end(&mut bytes));
+    match read {
+        Err(error) => Err(Ending::unreadable(&name(file), &error)),
+        Ok(length) if MOST < length as u64 => {
+            Err(Ending::NoFile(format!("{} has more than 64 MiB, which is the most for a window", name(file))))
+        }
+        Ok(_) => Ok(bytes),
+    }
+}
+
+/// Puts a file with these bytes in the place of this one.
+pub fn replace(file: &Path, bytes: &[u8]) -> Result<(), Ending> {
+    replaced(file, bytes).map_err(|error| {
+        Ending::NoFile(format!("{} can't be written, and is as it was: {}", name(file), reason(&error)))
+    })
+}
+
+fn replaced(file: &Path, bytes: &[u8]) -> io::Result<()> {
+    // a link stays, and what it leads to is replaced
+    let real = fs::canonicalize(file)?;
+    let old = fs::metadata(&real)?;
+    if !old.is_file() {
+        return Err(io::Error::other("it is no regular file"));
+    }
+    // who may not write to the file may not replace it either
+    OpenOptions::new().write(true).open(&real)?;
+    let folder = real.parent().ok_or(io::ErrorKind::NotFound)?;
+    let (mut new, mut beside) = Beside::create(folder)?;
+    new.write_all(bytes)?;
+    keep_owner(&new, &old)?;
+    new.set_permissions(old.permissions())?;
+    new.sync_all()?;
+    fs::rename(&beside.path, &real)?;
+    beside.is_left = false;
+    // The bytes are safe. That the new name is too needs the folder on the disk; where that can't be had nothing is lost.
+    let _ = File::open(folder).and_then(|folder| folder.sync_all());
+    Ok(())
+}
+
+fn keep_owner(new: &File, old: &Metadata) -> io::Result<()> {
+    let made = new.metadata()?;
+    if (made.uid(), made.gid()) == (old.uid(), old.gid()) {
+        return Ok(());
+    }
+    fchown(new, Some(old.uid()), Some(old.gid()))
+        .map_err(|error| io::Error::other(format!("its owner can't be kept, {}", reason(&error))))
+}
+
+/// A new file beside a window's. Where it doesn't take that one's name it is removed.
+struct Beside {
+    path: PathBuf,
+    is_left: bool,
+}
+
+impl Beside {
+    /// Makes an empty file under a name that none has in this folder. Nobody else may read it.
+    fn create(folder: &Path) -> io::Result<(File, Beside)> {
+        for number in 0..TRIES {
+            let path = folder.join(format!(".planksling-{}-{number}", std::process::id()));
+            match OpenOptions::new().write(true).create_new(true).mode(0o600).open(&path) {
+                Err(error) if error.kind() == io::ErrorKind::AlreadyExists => continue,
+                Err(error) => {
+                    return Err(io::Error::other(format!("no file can be made beside it, {}", reason(&error))))
+                }
+                Ok(file) => return Ok((file, Beside { path, is_left: true })),
+            }
+        }
+        Err(io::Error::other("no name is free for a file beside it"))
+    }
+}
+
+impl Drop for Beside {
+    fn drop(&mut self) {
+        if self.is_left {
+            let _ = fs::remove_file(&self.path);
+        }
+    }
+}
