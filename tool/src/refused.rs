@@ -170,7 +170,7 @@ fn text_note(file: &DescriptionFile, Refusal { cause, place }: Refusal) -> Optio
         Cause::BadCharacter => content.get(place..).and_then(character_note),
         _ if file.length == 0 => Some("The file is empty.".to_string()),
         _ if place == content.len() && place + 1 < file.length => {
-            Some(format!("A zero byte ends the text here; {} bytes behind it were not read.", file.length - place - 1))
+            Some("A zero byte ends the text here; what stands behind it doesn't count.".to_string())
         }
         _ => None,
     }
@@ -179,11 +179,12 @@ fn text_note(file: &DescriptionFile, Refusal { cause, place }: Refusal) -> Optio
 /// Which character or byte these bytes begin with.
 fn character_note(bytes: &[u8]) -> Option<String> {
     let chunk = bytes.utf8_chunks().next()?;
-    match chunk.valid().chars().next() {
-        Some(c) if c.is_ascii() => Some(format!("The byte here is 0x{:02X}.", u32::from(c))),
-        Some(c) => Some(format!("The character here is U+{:04X}.", u32::from(c))),
-        None => bytes.first().map(|byte| format!("The byte here is 0x{byte:02X}.")),
-    }
+    Some(match (chunk.valid().chars().next(), bytes.first()?) {
+        (Some('\r'), _) => "The byte here is 0x0D, a carriage return.".to_string(),
+        (Some('\u{FEFF}'), _) => "The character here is U+FEFF, a byte-order mark.".to_string(),
+        (Some(c), _) if !c.is_ascii() => format!("The character here is U+{:04X}.", u32::from(c)),
+        (_, byte) => format!("The byte here is 0x{byte:02X}."),
+    })
 }
 
 /// A paragraph in lines that are no longer than a terminal's.
