@@ -1,7 +1,7 @@
 //! Standard output, written in large parts.
 
 use crate::ending::{reason, Ending};
-use std::io::{self, StdoutLock, Write};
+use std::io::{self, IsTerminal, StdoutLock, Write};
 
 /// How much is gathered before it is written.
 const FULL: usize = 1 << 16;
@@ -9,11 +9,14 @@ const FULL: usize = 1 << 16;
 pub struct Output {
     bytes: Vec<u8>,
     to: StdoutLock<'static>,
+    is_terminal: bool,
 }
 
 impl Output {
     pub fn new() -> Output {
-        Output { bytes: Vec::with_capacity(FULL + FULL / 4), to: io::stdout().lock() }
+        let to = io::stdout().lock();
+        let is_terminal = to.is_terminal();
+        Output { bytes: Vec::with_capacity(FULL + FULL / 4), to, is_terminal }
     }
 
     /// Adds one line, which `put` puts behind the bytes, its newline included.
@@ -42,6 +45,8 @@ impl Output {
         self.bytes.clear();
         written.map_err(|error| match error.kind() {
             io::ErrorKind::BrokenPipe => Ending::ReaderGone,
+            // a terminal that can't be written was closed
+            _ if self.is_terminal => Ending::ReaderGone,
             _ => Ending::NoFile(format!("standard output can't be written: {}", reason(&error))),
         })
     }

@@ -5,7 +5,7 @@ use crate::json::Object;
 use crate::place::Spot;
 use crate::values;
 use crate::words::words;
-use planksling::{Cause, Description, Refusal, Variable, TEXT_LIMIT};
+use planksling::{Cause, Description, Refusal, Variable};
 
 /// How many columns the words take at most.
 const WIDTH: usize = 80;
@@ -165,8 +165,8 @@ pub fn element(description: &Description, variable: &Variable) -> Spot {
 fn text_note(file: &DescriptionFile, Refusal { cause, place }: Refusal) -> Option<String> {
     let content = file.content();
     match cause {
-        Cause::NoEnd if file.longer => Some(format!("The file has more than {TEXT_LIMIT} bytes; no more were read.")),
-        Cause::NoEnd => Some(format!("The file has {} bytes.", file.length)),
+        Cause::NoEnd if file.longer => Some("The file has more than 65,536 bytes; no more were read.".to_string()),
+        Cause::NoEnd => Some("The file has 65,536 bytes.".to_string()),
         Cause::BadCharacter => content.get(place..).and_then(character_note),
         _ if file.length == 0 => Some("The file is empty.".to_string()),
         _ if place == content.len() && place + 1 < file.length => {
