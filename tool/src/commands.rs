@@ -3,7 +3,7 @@
 use crate::arguments::{Call, Memory};
 use crate::description_file::DescriptionFile;
 use crate::ending::Ending;
-use crate::help;
+use crate::help::{self, Command};
 use crate::json::Object;
 use crate::output::Output;
 use crate::refused::{element, variable_object, Held, Refused};
@@ -12,6 +12,7 @@ use crate::{lines, values, window_file};
 use planksling::{Description, Refusal, Value, Variable, Window};
 use std::ffi::OsStr;
 use std::io::Write;
+use std::path::Path;
 
 pub fn run(call: &Call, json: bool, output: &mut Output) -> Result<(), Ending> {
     match call {
@@ -20,6 +21,7 @@ pub fn run(call: &Call, json: bool, output: &mut Output) -> Result<(), Ending> {
         Call::Show { file, number } => show(&Setting::find(file, *number)?, json, output),
         Call::Read { file, number, window } => read(&Setting::find(file, *number)?, window, json, output),
         Call::Write { file, number, value, window } => {
+            is_another(file, window)?;
             write(&Setting::find(file, *number)?, value, window, json, output)
         }
         Call::Help(command) => output.text(&help::text(*command)),
@@ -56,7 +58,7 @@ fn check(file: &OsStr, json: bool, output: &mut Output) -> Result<(), Ending> {
         return output.line(&object.finish());
     }
     let (records, variables) = (counted(records as u64, "record"), counted(variables, "variable"));
-    output.line(&format!("{}: accepted, {records}, {variables}", file.name))
+    output.line(&format!("{}: accepted, {records}, {variables}", shown(&file.name)))
 }
 
 /// So many of these.
@@ -112,15 +114,14 @@ fn show(setting: &Setting, json: bool, output: &mut Output) -> Result<(), Ending
         let object = object.plain("line", spot.line).plain("column", spot.column);
         return output.line(&object.text("shown", &spot.shown).plain("mark", spot.before).finish());
     }
-    output.text(&format!(
-        "variable {number}\n  kind     {kind}\n  space    {space}\n  address  {address} (0x{address:X})\n  size     {}\n  \
-         record   {record}\n{}:{}:{}\n{}",
-        counted(*size as u64, "byte"),
-        file.name,
-        spot.line,
-        spot.column,
-        spot.lines("    ")
-    ))
+    output.line(&format!("variable {number}"))?;
+    output.line(&format!("  kind     {kind}"))?;
+    output.line(&format!("  space    {space}"))?;
+    output.line(&format!("  address  {address} (0x{address:X})"))?;
+    output.line(&format!("  size     {}", counted(*size as u64, "byte")))?;
+    output.line(&format!("  record   {record}"))?;
+    output.line(&format!("{}:{}:{}", shown(&file.name), spot.line, spot.column))?;
+    output.text(&spot.lines("    "))
 }
 
 fn read(setting: &Setting, memory: &Memory, json: bool, output: &mut Output) -> Result<(), Ending> {
@@ -137,6 +138,14 @@ fn read(setting: &Setting, memory: &Memory, json: bool, output: &mut Output) -> 
     output.flush()?;
     if !reading.writable {
         let _ = std::io::stderr().write_all(b"planksling: this value could not be written now\n");
+    }
+    Ok(())
+}
+
+/// A slip of the hand would write a setting into the description itself.
+fn is_another(file: &OsStr, memory: &Memory) -> Result<(), Ending> {
+    if file != "-" && window_file::is_same(Path::new(file), &memory.file) {
+        return Err(Ending::WrongCall("the window is the description's own file".to_string(), Some(Command::Write)));
     }
     Ok(())
 }

@@ -10,7 +10,7 @@ use std::io::{self, Read};
 
 /// What was read of a description's file. No more is read than can matter.
 pub struct DescriptionFile {
-    /// Its name as it may be shown.
+    /// Its name as it was given.
     pub name: String,
     /// Its bytes, with a zero behind them if they had none.
     text: Vec<u8>,
@@ -22,9 +22,9 @@ pub struct DescriptionFile {
 impl DescriptionFile {
     /// Reads the file of this name; `-` is standard input.
     pub fn read(file: &OsStr) -> Result<DescriptionFile, Ending> {
-        let name = shown(&file.to_string_lossy());
+        let name = file.to_string_lossy().into_owned();
         let read = if file == "-" { beginning(io::stdin().lock()) } else { File::open(file).and_then(beginning) };
-        let mut text = read.map_err(|error| Ending::unreadable(&name, &error))?;
+        let mut text = read.map_err(|error| Ending::unreadable(&shown(&name), &error))?;
         let longer = TEXT_LIMIT < text.len();
         text.truncate(TEXT_LIMIT);
         let length = text.len();

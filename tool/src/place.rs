@@ -47,7 +47,7 @@ impl Spot {
         for c in self.shown.chars().take(self.before) {
             match c {
                 '\t' => below.push('\t'),
-                c => below.extend(std::iter::repeat(' ').take(width(c))),
+                c => below.extend(std::iter::repeat_n(' ', width(c))),
             }
         }
         let line = format!("{indent}{}", self.shown);

@@ -3,6 +3,7 @@
 use crate::description_file::DescriptionFile;
 use crate::json::Object;
 use crate::place::Spot;
+use crate::safe::shown;
 use crate::values;
 use crate::words::words;
 use planksling::{Cause, Description, Refusal, Variable};
@@ -22,6 +23,7 @@ pub struct Refused {
     file: String,
     /// The place in the text; for a refusal that has none that of the variable's element, where there is a variable.
     spot: Option<Spot>,
+    is_in_text: bool,
     variable: Option<Variable>,
     window: Option<Held>,
     /// What can be said beyond the words of the rule.
@@ -37,13 +39,19 @@ pub struct Held {
 }
 
 impl Refused {
+    /// A refusal of which nothing else is told.
+    fn new(file: &DescriptionFile, refusal: Refusal) -> Refused {
+        let file = file.name.clone();
+        Refused { refusal, file, spot: None, is_in_text: false, variable: None, window: None, notes: vec![] }
+    }
+
     /// A text that was refused.
     pub fn of_the_text(file: &DescriptionFile, refusal: Refusal) -> Refused {
         let content = file.content();
         let is_end = refusal.place == content.len();
         let spot = if is_end { Spot::end(content) } else { Spot::new(content, refusal.place) };
         let notes = text_note(file, refusal).into_iter().collect();
-        Refused { refusal, file: file.name.clone(), spot: Some(spot), variable: None, window: None, notes }
+        Refused { spot: Some(spot), is_in_text: true, notes, ..Refused::new(file, refusal) }
     }
 
     /// A number that no variable of the description has.
@@ -53,7 +61,7 @@ impl Refused {
             1 => "The description has one variable, 0.".to_string(),
             count => format!("The description has {count} variables, 0 to {}.", count - 1),
         };
-        Refused { refusal, file: file.name.clone(), spot: None, variable: None, window: None, notes: vec![note] }
+        Refused { notes: vec![note], ..Refused::new(file, refusal) }
     }
 
     /// A variable that can't be read or written so.
@@ -72,15 +80,15 @@ impl Refused {
         };
         let own = format!("Variable {}: {}.", variable.number, lives(&variable));
         let notes = std::iter::once(own).chain(notes).collect();
-        let file = file.name.clone();
-        Refused { refusal, file, spot: Some(spot), variable: Some(variable), window: Some(window), notes }
+        let (spot, variable, window) = (Some(spot), Some(variable), Some(window));
+        Refused { spot, variable, window, notes, ..Refused::new(file, refusal) }
     }
 
     /// For a person, in lines.
     pub fn plain(&self) -> String {
         let cause = self.refusal.cause;
         let at = self.spot.as_ref().map_or_else(String::new, |spot| format!(":{}:{}", spot.line, spot.column));
-        let mut told = format!("{}{at}: refused {}: {cause}\n", self.file, cause.number());
+        let mut told = format!("{}{at}: refused {}: {cause}\n", shown(&self.file), cause.number());
         if let Some(spot) = &self.spot {
             told.push_str(&spot.lines(INDENT));
         }
@@ -95,11 +103,11 @@ impl Refused {
     pub fn json(&self) -> String {
         let cause = self.refusal.cause;
         let (what, mend) = words(cause);
-        let mut object = Object::new()
-            .plain("refused", cause.number())
-            .text("rule", cause.words())
-            .text("file", &self.file)
-            .plain("place", self.refusal.place);
+        let object = Object::new().plain("refused", cause.number()).text("rule", cause.words());
+        let mut object = object.text("file", &self.file);
+        if self.is_in_text {
+            object = object.plain("place", self.refusal.place);
+        }
         if let Some(spot) = &self.spot {
             object = object.plain("line", spot.line).plain("column", spot.column);
             object = object.text("shown", &spot.shown).plain("mark", spot.before);

@@ -33,6 +33,12 @@ pub fn read(file: &Path) -> Result<Vec<u8>, Ending> {
     }
 }
 
+/// Are these two names of one file?
+pub fn is_same(one: &Path, other: &Path) -> bool {
+    let identity = |file| fs::metadata(file).ok().map(|data| (data.dev(), data.ino()));
+    identity(one).is_some_and(|known| identity(other) == Some(known))
+}
+
 /// Puts a file with these bytes in the place of this one.
 pub fn replace(file: &Path, bytes: &[u8]) -> Result<(), Ending> {
     replaced(file, bytes).map_err(|error| {

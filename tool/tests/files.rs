@@ -188,7 +188,7 @@ fn hostile_bytes() {
     folder.put(name, "\u{1B}]0;title\u{7}\u{1B}[31mred\r\n\u{9B}");
     folder.run(&["check", name]).failed(1, "\\x1B[2J\\u{9B}31m\\u{202E}:1:1: refused 2");
     folder.run(&["check", name]).failed(1, "\n    ·]0;title··[31mred·\n    ^\n");
-    folder.run(&["check", "--json", name]);
+    assert_eq!(Json::read(&folder.run(&["check", "--json", name]).out).text("file"), name);
     folder.run(&["check", "no\u{1B}file"]).failed(3, "no\\x1Bfile can't be read");
     folder.run(&["\u{1B}[2J"]).failed(2, "there is no command `\\x1B[2J`");
     folder.run(&["--\u{1B}[2J"]).failed(2, "there is no option `--\\x1B[2J`");

@@ -311,6 +311,29 @@ fn many_at_once() {
     assert_eq!(folder.names(), ["a", "w"]);
 }
 
+/// A description that is named as its own window stays as it is.
+#[test]
+fn the_description_as_window() {
+    let folder = settings();
+    symlink("a", folder.file("link")).expect("a link");
+    let before = folder.state("a");
+    for line in
+        ["write a 0 1 --window a", "write a 0 1 --window ./a", "write a 0 1 --window link", "write link 0 1 --window a"]
+    {
+        folder.run_line(line).failed(2, "the window is the description's own file\n");
+    }
+    assert_eq!(folder.state("a"), before);
+}
+
+/// An accepted write is done, whether or not its answer can be told.
+#[test]
+fn an_answer_that_cannot_be_told() {
+    let folder = settings();
+    let told = folder.shell("exec \"$0\" write a 0 300 --window w >/dev/full");
+    told.failed(3, "standard output can't be written: the disk is full\n");
+    assert_eq!(folder.bytes("w"), window(0, &[1, 44]));
+}
+
 #[test]
 fn the_sample_board() {
     let folder = Folder::new();
