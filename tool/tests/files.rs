@@ -50,6 +50,7 @@ fn a_file_that_may_not_be_read() {
     let folder = Folder::new();
     let file = folder.put("a", segment("<int/>\n"));
     fs::set_permissions(file, fs::Permissions::from_mode(0o000)).expect("permissions");
+    folder.hand_over();
     folder.run_bound("list a").failed(3, "a can't be read: that isn't permitted");
 }
 
@@ -144,7 +145,7 @@ fn a_reader_that_stops() {
     folder.shell("\"$0\" list a | head -n 1").printed("variables 1000000\n");
     // a refusal stays one, whoever reads it
     folder.put("b", "");
-    folder.shell("{ \"$0\" check --json b; echo $? >status; } | true").printed("");
+    folder.shell("{ sleep 0.3; \"$0\" check --json b; echo $? >status; } | true").printed("");
     assert_eq!(folder.bytes("status"), b"1\n");
 }
 

@@ -3,10 +3,10 @@
 mod tool;
 
 use std::fs::{self, File};
-use std::os::unix::fs::{symlink, MetadataExt, PermissionsExt};
+use std::os::unix::fs::{chown, symlink, MetadataExt, PermissionsExt};
 use std::time::{Duration, SystemTime};
 use tool::json::Json;
-use tool::{segment, Folder, ROOT, SAMPLES};
+use tool::{is_root, segment, Folder, NOBODY, ROOT, SAMPLES};
 
 /// An int of 2 bytes at 0, a string of 8 at 2, an eventid at 10, a signed int at 18, an int of 8 bytes at 19, a float at 27, an int with a map at 31.
 const ELEMENTS: &str = "<int size=\"2\"><max>5000</max></int><string size=\"8\"/><eventid/><int><min>-5</min></int>\
@@ -202,6 +202,26 @@ fn replaced_as_a_whole() {
     }
 }
 
+/// Root's write leaves a file to its owner. Who can't leave it to its owner doesn't replace it. Only root can try this: it takes two owners.
+#[test]
+fn owners() {
+    if !is_root() {
+        return;
+    }
+    let folder = settings();
+    folder.hand_over();
+    folder.run_line("write a 3 1 --window w").printed("variable 3 is now 1\n");
+    let data = fs::metadata(folder.file("w")).expect("a file");
+    assert_eq!((data.uid(), data.gid()), (NOBODY, NOBODY));
+    chown(folder.file("w"), Some(0), Some(0)).expect("another owner");
+    fs::set_permissions(folder.file("w"), fs::Permissions::from_mode(0o666)).expect("permissions");
+    let before = folder.state("w");
+    let told = folder.run_bound("write a 3 2 --window w");
+    told.failed(3, "w can't be written, and is as it was: its owner can't be kept, that isn't permitted\n");
+    assert_eq!(folder.state("w"), before);
+    assert_eq!(folder.names(), ["a", "w"]);
+}
+
 #[test]
 fn a_link_to_a_window() {
     let folder = settings();
@@ -260,6 +280,7 @@ fn a_window_of_64_mebibytes() {
 #[test]
 fn a_window_that_cannot_be_replaced() {
     let folder = settings();
+    folder.hand_over();
     let before = folder.state("w");
     fs::set_permissions(&folder.path, fs::Permissions::from_mode(0o555)).expect("permissions");
     let told = folder.run_bound("write a 0 1 --window w");

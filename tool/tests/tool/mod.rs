@@ -7,7 +7,7 @@ pub mod json;
 use std::ffi::OsStr;
 use std::fs;
 use std::io::Write;
-use std::os::unix::fs::{MetadataExt, PermissionsExt};
+use std::os::unix::fs::{chown, MetadataExt, PermissionsExt};
 use std::os::unix::process::CommandExt;
 use std::path::{Path, PathBuf};
 use std::process::{Command, Output, Stdio};
@@ -30,6 +30,14 @@ pub const ROOT: &str = concat!(
 /// A description with these elements in a segment of space 253, from address 0 on.
 pub fn segment(elements: &str) -> String {
     format!("{ROOT}<segment space=\"253\">\n{elements}</segment>\n</cdi>\n")
+}
+
+/// The number of a user without rights, and of its group.
+pub const NOBODY: u32 = 65534;
+
+/// Does root run the tests? No permission binds it.
+pub fn is_root() -> bool {
+    fs::metadata("/proc/self").expect("this process").uid() == 0
 }
 
 /// What a call told.
@@ -143,24 +151,31 @@ impl Folder {
         Told::new(self.program(Path::new("/bin/sh"), &words).output().expect("a shell"))
     }
 
-    /// A call by someone who isn't the system's administrator: permissions bind only others. The folder and its files become that one's.
+    /// A call by someone whom permissions bind: where root runs the tests, by nobody.
     pub fn run_bound(&self, line: &str) -> Told {
         let words: Vec<&str> = line.split_whitespace().collect();
-        if fs::metadata("/proc/self").expect("this process").uid() != 0 {
+        if !is_root() {
             return self.run(&words);
         }
         let place = Folder::new();
         let program = place.file("planksling");
-        fs::copy(PROGRAM, &program).expect("a copy of the program");
+        // by another process: a program that someone has open for writing can't be run, and a test beside may just start one with all that is open
+        let copied = Command::new("cp").arg(PROGRAM).arg(&program).status().expect("cp");
+        assert!(copied.success());
         for path in [&place.path, &program] {
             fs::set_permissions(path, fs::Permissions::from_mode(0o755)).expect("permissions");
         }
-        const NOBODY: u32 = 65534;
-        for path in self.names().iter().map(|name| self.file(name)).chain([self.path.clone()]) {
-            std::os::unix::fs::chown(path, Some(NOBODY), Some(NOBODY)).expect("another owner");
-        }
         let mut command = self.program(&program, &words);
         Told::new(command.uid(NOBODY).gid(NOBODY).output().expect("a program"))
+    }
+
+    /// Makes the folder and its files those of the one by whom `run_bound` calls.
+    pub fn hand_over(&self) {
+        if is_root() {
+            for path in self.names().iter().map(|name| self.file(name)).chain([self.path.clone()]) {
+                chown(path, Some(NOBODY), Some(NOBODY)).expect("another owner");
+            }
+        }
     }
 
     /// All that tells whether a file was touched.
