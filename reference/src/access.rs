@@ -35,16 +35,17 @@ pub enum ReadValue {
 }
 
 /// A variable of the text: where it stands and its details.
-struct Variable {
-    met: Met,
-    detail: Detail,
+pub struct Variable {
+    pub met: Met,
+    pub detail: Detail,
 }
 
 fn find_data(members: &[Data], record: usize) -> Option<&Data> {
     members.iter().find_map(|data| if data.record == record { Some(data) } else { find_data(&data.members, record) })
 }
 
-fn detail_of(segments: &[Segment], record: usize) -> Detail {
+/// The details of the variable with this record.
+pub fn detail_of(segments: &[Segment], record: usize) -> Detail {
     let found = segments.iter().find_map(|segment| find_data(&segment.members, record));
     found.map_or(Detail::None, |data| data.detail.clone())
 }
@@ -136,8 +137,12 @@ fn stored(variable: &Variable, value: &Value) -> Result<Vec<u8>, Refusal> {
 
 /// Writes a value; the answer is the window afterwards. A refusal leaves it as it was.
 pub fn write(access: &Access, value: &Value) -> Result<Vec<u8>, Refusal> {
-    let variable = chosen(access)?;
-    let bytes = stored(&variable, value)?;
+    write_to(&chosen(access)?, access, value)
+}
+
+/// Writes a value to a variable that has been chosen: of the access the window alone is looked at.
+pub fn write_to(variable: &Variable, access: &Access, value: &Value) -> Result<Vec<u8>, Refusal> {
+    let bytes = stored(variable, value)?;
     let part = part(access, &variable.met)?;
     let mut window = access.window.clone();
     window[part].copy_from_slice(&bytes);
@@ -168,7 +173,11 @@ fn read_event(map: bool, bytes: &[u8]) -> ReadValue {
 
 /// Reads a variable out of the window.
 pub fn read(access: &Access) -> Result<ReadValue, Refusal> {
-    let variable = chosen(access)?;
+    read_from(&chosen(access)?, access)
+}
+
+/// Reads a variable that has been chosen: of the access the window alone is looked at.
+pub fn read_from(variable: &Variable, access: &Access) -> Result<ReadValue, Refusal> {
     if variable.met.kind == Kind::Float {
         return Err(unplaced(27));
     }
