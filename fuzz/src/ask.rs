@@ -1,6 +1,7 @@
 //! Makes one call after another with lent memory, and compares all that it tells and leaves with what is wanted of it.
 
 use reference::access::{Access, ReadValue, Value};
+use reference::description::Kind;
 use reference::random::Random;
 use reference::walk::Met;
 use reference::Refusal;
@@ -80,12 +81,15 @@ fn listed(met: &Met) -> [u64; LISTED] {
 
 /// What is handed out of a value that was read: kind, negative, number, from, to, writable.
 fn handed_out(value: &ReadValue, start: usize) -> [u64; 6] {
+    let kind = |kind: Kind| kind.field() as u64;
     match value {
         ReadValue::Integer { value, accepted } => {
-            [3, (*value < 0) as u64, value.unsigned_abs() as u64, 0, 0, *accepted as u64]
+            [kind(Kind::Int), (*value < 0) as u64, value.unsigned_abs() as u64, 0, 0, *accepted as u64]
         }
-        ReadValue::Text { bytes, accepted } => [4, 0, 0, start as u64, (start + bytes.len()) as u64, *accepted as u64],
-        ReadValue::Event { value, accepted } => [5, 0, *value, 0, 0, *accepted as u64],
+        ReadValue::Text { bytes, accepted } => {
+            [kind(Kind::String), 0, 0, start as u64, (start + bytes.len()) as u64, *accepted as u64]
+        }
+        ReadValue::Event { value, accepted } => [kind(Kind::Eventid), 0, *value, 0, 0, *accepted as u64],
     }
 }
 
