@@ -1,7 +1,7 @@
 //! Writing and reading a variable in a window, in the order of causes of document 01.
 
 use crate::description::{Data, Detail, IntDetail, Kind, Segment};
-use crate::plan::planned;
+use crate::plan::{planned, Planned};
 use crate::refusal::{unplaced, Refusal};
 use crate::table::variable;
 use crate::text::is_utf8;
@@ -50,18 +50,24 @@ pub fn detail_of(segments: &[Segment], record: usize) -> Detail {
     found.map_or(Detail::None, |data| data.detail.clone())
 }
 
-/// Causes 1 to 12, 20 and 21.
-fn chosen(access: &Access) -> Result<Variable, Refusal> {
-    let planned = planned(&access.text)?;
-    if planned.numbers != access.table {
+/// Causes 1 to 12 and 20: the plan of the text, if this table is exactly that.
+pub fn planned_as(text: &[u8], table: &[i64]) -> Result<Planned, Refusal> {
+    let planned = planned(text)?;
+    if planned.numbers != table {
         return Err(unplaced(20));
     }
+    Ok(planned)
+}
+
+/// Causes 1 to 12, 20 and 21.
+fn chosen(access: &Access) -> Result<Variable, Refusal> {
+    let planned = planned_as(&access.text, &access.table)?;
     let met = variable(&planned.segments, access.n).ok_or(unplaced(21))?;
     Ok(Variable { met, detail: detail_of(&planned.segments, met.record) })
 }
 
 /// Cause 26, or the places of the variable's bytes in the window.
-fn part(access: &Access, met: &Met) -> Result<std::ops::Range<usize>, Refusal> {
+pub fn part(access: &Access, met: &Met) -> Result<std::ops::Range<usize>, Refusal> {
     let first = access.first as i128;
     let (start, end) = (met.address - first, met.address + met.size as i128 - first);
     let inside = start >= 0 && end <= access.window.len() as i128;

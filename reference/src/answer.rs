@@ -5,6 +5,7 @@ use crate::description::Kind;
 use crate::leaves::{leaf_line, Leaf};
 use crate::plan::plan_into;
 use crate::refusal::Refusal;
+use crate::session::{Known, Operation, Session};
 use crate::table::locate;
 
 /// One question, as a frame of the stream gives it.
@@ -16,7 +17,17 @@ pub enum Case {
     WriteEvent { access: Access, value: u64 },
     WriteText { access: Access, value: Vec<u8> },
     Read { access: Access },
+    Session { session: Session, operations: Vec<Operation> },
     Leaf(Leaf),
+}
+
+/// What one operation of a session came to, and the session value and the hashes of window and journal after it.
+#[derive(Debug, Clone, Copy, PartialEq, Eq)]
+pub struct Step {
+    pub outcome: Result<(), Refusal>,
+    pub standing: u64,
+    pub window: u64,
+    pub journal: u64,
 }
 
 /// One answer, with the lent memory as it is afterwards.
@@ -62,6 +73,11 @@ pub enum Answer {
     },
     ReadRefused {
         refusal: Refusal,
+    },
+    /// Each operation, and the session as it is at the end.
+    Session {
+        steps: Vec<Step>,
+        session: Session,
     },
     /// The line for a single reading.
     Leaf {
@@ -111,6 +127,19 @@ fn answer_read(access: &Access) -> Answer {
     }
 }
 
+/// The operations in order, each on what the one before left.
+fn answer_session(opening: &Session, operations: &[Operation]) -> Answer {
+    let mut session = opening.clone();
+    let known = Known::of(&session.text, &session.table);
+    let mut step = |operation: &Operation| {
+        let outcome = session.perform(&known, operation);
+        let [window, journal] = [&session.window, &session.journal].map(|bytes| hash(bytes.iter().copied()));
+        Step { outcome, standing: session.standing, window, journal }
+    };
+    let steps = operations.iter().map(&mut step).collect();
+    Answer::Session { steps, session }
+}
+
 pub fn answer(case: &Case) -> Answer {
     match case {
         Case::Plan { room, text } => answer_plan(*room, text),
@@ -121,6 +150,7 @@ pub fn answer(case: &Case) -> Answer {
         Case::WriteEvent { access, value } => answer_write(access, Value::Event(*value)),
         Case::WriteText { access, value } => answer_write(access, Value::Text(value.clone())),
         Case::Read { access } => answer_read(access),
+        Case::Session { session, operations } => answer_session(session, operations),
         Case::Leaf(leaf) => Answer::Leaf { line: leaf_line(leaf) },
     }
 }
@@ -158,6 +188,22 @@ fn refused(refusal: &Refusal) -> String {
     format!("refused {} {}", refusal.number, refusal.place)
 }
 
+fn outcome(step: &Step) -> String {
+    match step.outcome {
+        Ok(()) => "+".to_string(),
+        Err(refusal) => format!("{}.{}", refusal.number, refusal.place),
+    }
+}
+
+fn session_line(steps: &[Step], session: &Session) -> String {
+    let outcomes: Vec<String> = steps.iter().map(outcome).collect();
+    let outcomes = if outcomes.is_empty() { "-".to_string() } else { outcomes.join(",") };
+    let told = steps.iter().flat_map(|step| [step.standing, step.window, step.journal]);
+    let all = hash(told.flat_map(u64::to_be_bytes));
+    let (window, journal) = (window_hash(&session.window), window_hash(&session.journal));
+    format!("session {outcomes} {} {window} {journal} {all:016x}", session.standing)
+}
+
 /// The line for an answer, without its newline.
 pub fn line(answer: &Answer) -> String {
     match answer {
@@ -172,6 +218,7 @@ pub fn line(answer: &Answer) -> String {
         Answer::Integer { value, accepted } => format!("integer {value} {}", flag(*accepted)),
         Answer::Event { value, accepted } => format!("event {value} {}", flag(*accepted)),
         Answer::Text { bytes, accepted } => format!("text {} {}", hex(bytes), flag(*accepted)),
+        Answer::Session { steps, session } => session_line(steps, session),
         Answer::Leaf { line } => line.clone(),
     }
 }

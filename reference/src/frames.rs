@@ -2,14 +2,16 @@
 
 use std::io::Read;
 
-use crate::access::Access;
+use crate::access::{Access, Value};
 use crate::answer::Case;
 use crate::leaves::Leaf;
+use crate::session::{Operation, Session};
 
 /// The limits of a frame.
 pub const ROOM_LIMIT: u64 = 40_000;
 pub const BYTES_LIMIT: usize = 70_000;
 pub const NUMBERS_LIMIT: usize = 40_000;
+pub const OPERATIONS_LIMIT: usize = 1_000;
 
 fn put_bytes(frame: &mut Vec<u8>, bytes: &[u8]) {
     frame.extend((bytes.len() as u32).to_be_bytes());
@@ -30,6 +32,38 @@ fn put_access(frame: &mut Vec<u8>, access: &Access) {
         frame.extend(number.to_be_bytes());
     }
     put_bytes(frame, &access.window);
+}
+
+fn put_operation(frame: &mut Vec<u8>, operation: &Operation) {
+    let Operation::Edit { n, value } = operation else { return frame.push(b'U') };
+    frame.push(match value {
+        Value::Integer { .. } => b'I',
+        Value::Event(_) => b'E',
+        Value::Text(_) => b'S',
+    });
+    frame.extend(n.to_be_bytes());
+    match value {
+        Value::Integer { negative, magnitude } => {
+            frame.push(*negative as u8);
+            frame.extend(magnitude.to_be_bytes());
+        }
+        Value::Event(value) => frame.extend(value.to_be_bytes()),
+        Value::Text(value) => put_bytes(frame, value),
+    }
+}
+
+fn put_session(frame: &mut Vec<u8>, session: &Session, operations: &[Operation]) {
+    put_bytes(frame, &session.text);
+    put_table(frame, &session.table);
+    frame.extend(session.space.to_be_bytes());
+    frame.extend(session.first.to_be_bytes());
+    put_bytes(frame, &session.window);
+    put_bytes(frame, &session.journal);
+    frame.extend(session.standing.to_be_bytes());
+    frame.extend((operations.len() as u32).to_be_bytes());
+    for operation in operations {
+        put_operation(frame, operation);
+    }
 }
 
 fn put_leaf(frame: &mut Vec<u8>, leaf: &Leaf) {
@@ -81,6 +115,10 @@ pub fn frame(case: &Case) -> Vec<u8> {
         Case::Read { access } => {
             frame.push(b'G');
             put_access(&mut frame, access);
+        }
+        Case::Session { session, operations } => {
+            frame.push(b'J');
+            put_session(&mut frame, session, operations);
         }
         Case::Leaf(leaf) => put_leaf(&mut frame, leaf),
     }
@@ -174,6 +212,39 @@ impl<R: Read> Frames<R> {
         }
     }
 
+    fn operation(&mut self) -> Result<Operation, BadFrame> {
+        let place = self.place;
+        let sort = self.take(1)?[0];
+        if sort == b'U' {
+            return Ok(Operation::Undo);
+        }
+        if !b"IES".contains(&sort) {
+            return Err(BadFrame { place, why: "an unknown operation" });
+        }
+        let n = self.number()?;
+        let value = match sort {
+            b'I' => Value::Integer { negative: self.sign()?, magnitude: self.number()? },
+            b'E' => Value::Event(self.number()?),
+            _ => Value::Text(self.bytes()?),
+        };
+        Ok(Operation::Edit { n, value })
+    }
+
+    fn session(&mut self) -> Result<Case, BadFrame> {
+        let session = Session {
+            text: self.bytes()?,
+            table: self.table()?,
+            space: self.number()?,
+            first: self.number()?,
+            window: self.bytes()?,
+            journal: self.bytes()?,
+            standing: self.number()?,
+        };
+        let count = self.length(OPERATIONS_LIMIT)?;
+        let operations = (0..count).map(|_| self.operation()).collect::<Result<_, _>>()?;
+        Ok(Case::Session { session, operations })
+    }
+
     /// A content and a place in it.
     fn piece(&mut self) -> Result<Leaf, BadFrame> {
         let content = self.bytes()?;
@@ -208,6 +279,7 @@ impl<R: Read> Frames<R> {
             b'E' => Ok(Case::WriteEvent { access: self.access()?, value: self.number()? }),
             b'S' => Ok(Case::WriteText { access: self.access()?, value: self.bytes()? }),
             b'G' => Ok(Case::Read { access: self.access()? }),
+            b'J' => self.session(),
             b'Z' => Ok(Case::Leaf(Leaf::Ending(self.bytes()?))),
             b'U' => Ok(Case::Leaf(Leaf::Characters(self.bytes()?))),
             b'N' => Ok(Case::Leaf(Leaf::Number(self.bytes()?))),

@@ -1,4 +1,4 @@
-//! An independent reference for the answers of document 01 and of requests of document 02, written from their words in the most
+//! An independent reference for the answers of document 01 and of requests of document 02, written from their words in the most
 //! literal way.
 //! `answer` gives the answer to a case, `line` its line, `frame` the bytes of a case in the stream.
 
@@ -16,6 +16,7 @@ pub mod random;
 pub mod reading;
 pub mod refusal;
 pub mod rules;
+pub mod session;
 pub mod table;
 pub mod text;
 pub mod tree;
@@ -26,3 +27,4 @@ pub use answer::{answer, line, Answer, Case};
 pub use frames::{frame, BadFrame, Frames};
 pub use leaves::Leaf;
 pub use refusal::Refusal;
+pub use session::{Operation, Session};

@@ -10,7 +10,7 @@ use reference::listing::listing;
 use reference::{answer, frame, line, Frames};
 
 const USAGE: &str =
-    "usage: reference answers | reference list | reference cases --seed S --count N --kind plan|locate|access|all|leaf [--small] [--stats]";
+    "usage: reference answers | reference list | reference cases --seed S --count N --kind plan|locate|access|session|all|leaf [--small] [--stats]";
 
 /// Prints one line for each case of standard input.
 fn answers() -> io::Result<ExitCode> {
@@ -56,6 +56,7 @@ fn sort(word: &str) -> Option<Sort> {
         "plan" => Some(Sort::Plan),
         "locate" => Some(Sort::Locate),
         "access" => Some(Sort::Access),
+        "session" => Some(Sort::Session),
         "all" => Some(Sort::All),
         "leaf" => Some(Sort::Leaf),
         _ => None,

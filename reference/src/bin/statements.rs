@@ -129,7 +129,7 @@ fn question(case: &Case, text: &str) -> (Vec<u8>, String) {
         Case::WriteText { access, value } => {
             (access.text.clone(), format!("writes {text} {} (string {})", accessed(access), bytes(value)))
         }
-        Case::Leaf(_) => unreachable!("single readings are refused before"),
+        Case::Leaf(_) | Case::Session { .. } => unreachable!("single readings and sessions are refused before"),
         Case::Read { access } => (access.text.clone(), format!("read {text} {}", accessed(access))),
     }
 }
@@ -149,7 +149,9 @@ fn told(answer: &Answer) -> String {
         Answer::WriteRefused { refusal, window } => format!("({}, {})", refused(refusal), bytes(window)),
         Answer::Integer { value, accepted } => reading(&format!("integer ({})", whole(*value)), *accepted),
         Answer::Event { value, accepted } => reading(&format!("event {value}"), *accepted),
-        Answer::Leaf { .. } => unreachable!("single readings are refused before"),
+        Answer::Leaf { .. } | Answer::Session { .. } => {
+            unreachable!("single readings and sessions are refused before")
+        }
         Answer::Text { bytes: value, accepted } => reading(&format!("string {}", bytes(value)), *accepted),
     }
 }
@@ -197,8 +199,8 @@ fn main() -> ExitCode {
             return ExitCode::from(1);
         }
     };
-    if cases.iter().any(|case| matches!(case, Case::Leaf(_))) {
-        eprintln!("a frame of a single reading, about which nothing is stated");
+    if cases.iter().any(|case| matches!(case, Case::Leaf(_) | Case::Session { .. })) {
+        eprintln!("a frame of a single reading or of a session, about which nothing is stated");
         return ExitCode::from(1);
     }
     if let Err(error) = put(Path::new(folder), &cases) {

@@ -25,13 +25,14 @@ const SEQUENCES: [&[u8]; 20] = [
 ];
 
 /// A text, its plan, and the variables that a walk meets.
-struct Target {
-    text: Vec<u8>,
-    planned: Planned,
-    met: Vec<Met>,
+pub struct Target {
+    pub text: Vec<u8>,
+    pub planned: Planned,
+    pub met: Vec<Met>,
 }
 
-fn focused(random: &mut Random, measure: &Measure) -> Node {
+/// A variable with many details.
+pub fn focused(random: &mut Random, measure: &Measure) -> Node {
     let full = Measure { full: 50, ..*measure };
     match random.below(5) {
         0 | 1 => int(random, &full),
@@ -42,7 +43,7 @@ fn focused(random: &mut Random, measure: &Measure) -> Node {
 }
 
 /// An accepted text that has variables.
-fn target(random: &mut Random, measure: &Measure) -> Target {
+pub fn target(random: &mut Random, measure: &Measure) -> Target {
     loop {
         let mut node = if random.chance(60) {
             description(random, &Measure { data: 3, ..*measure })
@@ -84,7 +85,7 @@ fn data_of(members: &[Data], record: usize) -> Option<&Data> {
     members.iter().find_map(|data| if data.record == record { Some(data) } else { data_of(&data.members, record) })
 }
 
-fn detail(segments: &[Segment], record: usize) -> Detail {
+pub fn detail(segments: &[Segment], record: usize) -> Detail {
     let found = segments.iter().find_map(|segment| data_of(&segment.members, record));
     found.map_or(Detail::None, |data| data.detail.clone())
 }
@@ -111,7 +112,7 @@ fn missing_window(random: &mut Random, met: &Met) -> (u64, usize) {
 }
 
 /// Bytes for a window: at random, zeros, letters, or a text where the variable stands.
-fn fill(random: &mut Random, length: usize) -> Vec<u8> {
+pub fn fill(random: &mut Random, length: usize) -> Vec<u8> {
     let sort = random.below(5);
     let mut bytes = Vec::with_capacity(length);
     while bytes.len() < length {
@@ -141,7 +142,7 @@ fn access_to(random: &mut Random, target: &Target, n: usize) -> Access {
     }
 }
 
-fn some_integer(random: &mut Random, detail: &Detail) -> (bool, u64) {
+pub fn some_integer(random: &mut Random, detail: &Detail) -> (bool, u64) {
     let Detail::Int(int) = detail else { return (random.chance(20), random.draw()) };
     let property = int.map.as_ref().and_then(|map| (!map.is_empty()).then(|| random.pick(map)));
     let span = (int.max - int.min + 1).max(1);
@@ -160,7 +161,7 @@ fn some_integer(random: &mut Random, detail: &Detail) -> (bool, u64) {
     (value < 0, value.unsigned_abs().min(u64::MAX as u128) as u64)
 }
 
-fn some_value_text(random: &mut Random, detail: &Detail, size: usize) -> Vec<u8> {
+pub fn some_value_text(random: &mut Random, detail: &Detail, size: usize) -> Vec<u8> {
     let length = match random.below(5) {
         0 => size.saturating_sub(1),
         1 => size,

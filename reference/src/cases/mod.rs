@@ -9,6 +9,7 @@ pub mod faults;
 pub mod leaves;
 pub mod markup;
 pub mod reached;
+pub mod sessions;
 pub mod shapes;
 pub mod spellings;
 pub mod stats;
@@ -28,7 +29,9 @@ pub enum Sort {
     Plan,
     Locate,
     Access,
+    /// Plans, tables, writes and reads in turn; no sessions, about which the definitions that compute such cases state nothing.
     All,
+    Session,
     Leaf,
 }
 
@@ -48,6 +51,7 @@ pub struct Stream {
     plan: Vec<Case>,
     locate: Vec<Case>,
     access: Vec<Case>,
+    session: Vec<Case>,
 }
 
 impl Stream {
@@ -73,6 +77,7 @@ impl Stream {
             plan: of(Sort::Plan, boundaries::of_plan),
             locate: of(Sort::Locate, boundaries::of_locate),
             access: of(Sort::Access, boundaries::of_access),
+            session: if sort == Sort::Session { boundaries::of_session() } else { Vec::new() },
         }
     }
 
@@ -93,6 +98,7 @@ impl Stream {
         let fixed = match sort {
             Sort::Plan => &self.plan,
             Sort::Locate => &self.locate,
+            Sort::Session => &self.session,
             _ => &self.access,
         };
         if turn % BOUNDARY_EVERY == BOUNDARY_EVERY - 1 && !fixed.is_empty() {
@@ -106,6 +112,7 @@ impl Stream {
             let case = match sort {
                 Sort::Plan => plan_case(random, self.small),
                 Sort::Locate => locate_case(random, self.small),
+                Sort::Session => sessions::session_case(random),
                 _ => accesses::access_case(random, self.measure(), !self.small),
             };
             if !self.small || is_small(&case) {
@@ -238,7 +245,7 @@ fn access_is_small(access: &Access) -> bool {
     text_is_small(&access.text) && table_is_small(&access.table) && access.window.len() <= SMALL_BYTES
 }
 
-/// Whether a case is short and its full walk is small.
+/// Whether a case is short and its full walk is small; sessions and single readings are of one measure only.
 pub fn is_small(case: &Case) -> bool {
     match case {
         Case::Plan { text, .. } => text_is_small(text),
@@ -247,6 +254,6 @@ pub fn is_small(case: &Case) -> bool {
             access_is_small(access)
         }
         Case::WriteText { access, value } => access_is_small(access) && value.len() <= SMALL_BYTES,
-        Case::Leaf(_) => true,
+        Case::Session { .. } | Case::Leaf(_) => true,
     }
 }

@@ -2,8 +2,9 @@
 
 use std::collections::BTreeMap;
 
-use crate::answer::{answer, Answer, Case};
+use crate::answer::{answer, Answer, Case, Step};
 use crate::refusal::Refusal;
+use crate::session::Operation;
 
 pub fn refusal_of(answer: &Answer) -> Option<Refusal> {
     match answer {
@@ -27,6 +28,7 @@ pub fn label(answer: &Answer) -> String {
         Answer::Written { .. } => "written",
         Answer::Integer { .. } => "integer",
         Answer::Event { .. } => "event",
+        Answer::Session { .. } => "session",
         _ => "text",
     };
     word.to_string()
@@ -36,12 +38,31 @@ pub fn kind_of(case: &Case) -> &'static str {
     match case {
         Case::Plan { .. } => "plan",
         Case::Locate { .. } => "locate",
+        Case::Session { .. } => "session",
         Case::Leaf(_) => "leaf",
         _ => "access",
     }
 }
 
-/// How often each answer is given, by kind of case.
+/// The refusal's number for each operation of a session, or what was accepted.
+pub fn operation_labels(operations: &[Operation], steps: &[Step]) -> Vec<String> {
+    let told = |(operation, step): (&Operation, &Step)| match (step.outcome, operation) {
+        (Err(refusal), _) => refusal.number.to_string(),
+        (Ok(()), Operation::Edit { .. }) => "edit".to_string(),
+        (Ok(()), Operation::Undo) => "undo".to_string(),
+    };
+    operations.iter().zip(steps).map(told).collect()
+}
+
+/// The answers to a case: those of its operations if it is a session, else the one.
+fn labels(case: &Case) -> Vec<String> {
+    match (case, answer(case)) {
+        (Case::Session { operations, .. }, Answer::Session { steps, .. }) => operation_labels(operations, &steps),
+        (_, answer) => vec![label(&answer)],
+    }
+}
+
+/// How often each answer is given, by kind of case; of sessions each operation counts.
 #[derive(Debug, Default)]
 pub struct Shares {
     pub counts: BTreeMap<(&'static str, String), usize>,
@@ -49,7 +70,9 @@ pub struct Shares {
 
 impl Shares {
     pub fn add(&mut self, case: &Case) {
-        *self.counts.entry((kind_of(case), label(&answer(case)))).or_default() += 1;
+        for label in labels(case) {
+            *self.counts.entry((kind_of(case), label)).or_default() += 1;
+        }
     }
 
     pub fn total(&self, kind: &str) -> usize {

@@ -1,13 +1,15 @@
-//! Fixed cases at every boundary of document 01 and of requests, cycled through by every stream.
+//! Fixed cases at every boundary of document 01 and of requests, cycled through by every stream.
 
 mod accesses;
 mod causes;
 mod plans;
+mod sessions;
 mod spellings;
 mod tables;
 
 pub use accesses::of_access;
 pub use plans::of_plan;
+pub use sessions::of_session;
 pub use tables::of_locate;
 
 use super::markup::{plain, root, segment, Node};

@@ -1,6 +1,6 @@
 //! How often a stream of planning cases reaches what a planner may read in a way of its own and each cause of 81 to 88, one and several at once, and
-//! one of writes and reads what turns on blanks and signs, by the independent program's reading of each text. A case counts once for each thing
-//! that it shows.
+//! one of writes and reads what turns on blanks and signs, and one of sessions each boundary, by the independent program's reading of each text. A
+//! case counts once for each thing that it shows.
 
 pub mod accesses;
 pub mod causes;
@@ -8,6 +8,7 @@ pub mod faults;
 pub mod leaves;
 pub mod numbers;
 pub mod rows;
+pub mod sessions;
 pub mod tags;
 
 use std::collections::{BTreeMap, BTreeSet};
@@ -62,6 +63,7 @@ impl Reached {
     pub fn add(&mut self, case: &Case) {
         let met = match case {
             Case::Plan { room, text } => planning(*room, text),
+            Case::Session { .. } => sessions::met(case),
             _ => accesses::met(case),
         };
         for label in met.into_iter().collect::<BTreeSet<String>>() {
@@ -73,9 +75,9 @@ impl Reached {
         self.counts.get(label).copied().unwrap_or(0)
     }
 
-    /// One line for each thing, of planning and of writes and reads where the stream has such cases.
+    /// One line for each thing, of planning, of writes and reads and of sessions where the stream has such cases.
     pub fn lines(&self) -> Vec<String> {
-        let sorts = [labels(), accesses::labels()];
+        let sorts = [labels(), accesses::labels(), sessions::labels()];
         let shown = sorts.into_iter().filter(|labels| labels.iter().any(|label| self.count(label) > 0));
         shown.flatten().map(|label| format!("reached {} {label}", self.count(&label))).collect()
     }
