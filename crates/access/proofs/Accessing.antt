@@ -44,7 +44,7 @@ module _ (b : List ℕ) (t : List ℤ) (n : ℕ) {f : Fault} (e : settingOf b t 
 
 -- ── the check ──
 
-not-known : (b : List ℕ) (t : List ℤ) (n : ℕ) (f : Fault) → knownOf b t ≡ refused f → settingOf b t n ≡ refused f
+pub not-known : (b : List ℕ) (t : List ℤ) (n : ℕ) (f : Fault) → knownOf b t ≡ refused f → settingOf b t n ≡ refused f
 unfolding knownOf settingOf
 not-known b t n f e = by (described b andThen exact t) e
   where

@@ -98,7 +98,7 @@ module _ (c : List ℕ) {s : Setting} (g : Good c s) (space first : ℕ) (bytes 
 
   -- refused
   module _ (h : r ≡ 0 → ⊥) where
-    refused-is : firstCause (writeCauses w (wantedOf v t) (settingIs c s)) ≡ refused (fault r 0)
+    pub refused-is : firstCause (writeCauses w (wantedOf v t) (settingIs c s)) ≡ refused (fault r 0)
     unfolding causeOf
     refused-is = sym cause-is ∙ rw (ne-eqb _ _ h)
 
@@ -112,7 +112,7 @@ module _ (c : List ℕ) {s : Setting} (g : Good c s) (space first : ℕ) (bytes 
 
   -- accepted
   module _ (h : r ≡ 0) where
-    accepted-is : firstCause (writeCauses w (wantedOf v t) (settingIs c s)) ≡ accepted tt
+    pub accepted-is : firstCause (writeCauses w (wantedOf v t) (settingIs c s)) ≡ accepted tt
     unfolding causeOf
     accepted-is = sym cause-is ∙ rw h
 

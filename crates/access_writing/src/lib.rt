@@ -22,7 +22,7 @@ pub enum Written {
 }
 
 // Fills the part with the value's bytes.
-fn put(part: &mut [u8], value: Wanted, string: &[u8])
+pub fn put(part: &mut [u8], value: Wanted, string: &[u8])
     requires { ⌜ Room (length (now part)) value (length (now string)) ⌝ }
     ensures { λ _. ⌜ now (part .exit) ≡ stored (length (now (part .entry))) (wantedOf value (now (string .entry))) ⌝ }
 {

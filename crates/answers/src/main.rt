@@ -46,6 +46,9 @@ fn next(
     if first == b'P' {
         return plans::frame(text, table, out, at);
     }
+    if first == b'J' {
+        return answers_sessions::frame(text, table, window, value, out, at);
+    }
     if is_access(first) {
         return accesses::frame(first, text, table, window, value, out, at);
     }

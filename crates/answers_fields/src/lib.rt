@@ -1,4 +1,4 @@
-// The fields of a frame that asks for writing or reading.
+// The fields of a frame that hands in a text, its table and a window.
 
 use frames::Field;
 use frames::read_number;
@@ -8,7 +8,72 @@ ghost use Prim.Native.Nat.{_≤_};
 ghost use mathlib.Core.Path.{_≡_};
 ghost use lib.ListN.{length};
 
-// How much of each buffer is filled, the variable's number, the window's space and first address; and whether all of it was read.
+// How much of the text's and of the table's buffer is filled; and whether both were read.
+pub struct Described {
+    pub whole: bool,
+    pub text: usize,
+    pub numbers: usize,
+}
+
+// Reads text and table, the second through a buffer of bytes.
+pub fn text_and_table(text: &mut [u8], table: &mut [i64], block: &mut [u8]) -> Described
+    ensures { λ r. ⌜ (r .text ≤ length (now (text .entry))) × (r .numbers ≤ length (now (table .entry))) ⌝ }
+{
+    let bytes = read_part(text);
+    if !bytes.whole {
+        return Described {
+            whole: false,
+            text: 0,
+            numbers: 0,
+        };
+    }
+    let numbers = read_numbers(table, block);
+    Described {
+        whole: numbers.whole,
+        text: bytes.size,
+        numbers: numbers.size,
+    }
+}
+
+// A window's space and first address, and how much of its buffer is filled; and whether all of it was read.
+pub struct Held {
+    pub whole: bool,
+    pub space: u64,
+    pub first: u64,
+    pub window: usize,
+}
+
+fn nothing_held() -> Held
+    ensures { λ r. ⌜ r .window ≡ 0 ⌝ }
+{
+    Held {
+        whole: false,
+        space: 0,
+        first: 0,
+        window: 0,
+    }
+}
+
+// Reads a window.
+pub fn window_of(window: &mut [u8]) -> Held
+    ensures { λ r. ⌜ r .window ≤ length (now (window .entry)) ⌝ }
+{
+    let Field::Is(space) = read_number() else {
+        return nothing_held();
+    };
+    let Field::Is(first) = read_number() else {
+        return nothing_held();
+    };
+    let part = read_part(window);
+    Held {
+        whole: part.whole,
+        space,
+        first,
+        window: part.size,
+    }
+}
+
+// All fields of a frame that asks for writing or reading: the variable's number too.
 pub struct Asked {
     pub whole: bool,
     pub text: usize,
@@ -37,31 +102,21 @@ fn cut_off() -> Asked
 pub fn fields(text: &mut [u8], table: &mut [i64], window: &mut [u8]) -> Asked
     ensures { λ r. ⌜ (r .text ≤ length (now (text .entry))) × (r .numbers ≤ length (now (table .entry))) × (r .window ≤ length (now (window .entry))) ⌝ }
 {
-    let bytes = read_part(text);
-    if !bytes.whole {
-        return cut_off();
-    }
-    let numbers = read_numbers(table, window);
-    if !numbers.whole {
+    let described = text_and_table(text, table, window);
+    if !described.whole {
         return cut_off();
     }
     let Field::Is(n) = read_number() else {
         return cut_off();
     };
-    let Field::Is(space) = read_number() else {
-        return cut_off();
-    };
-    let Field::Is(first) = read_number() else {
-        return cut_off();
-    };
-    let part = read_part(window);
+    let held = window_of(window);
     Asked {
-        whole: part.whole,
-        text: bytes.size,
-        numbers: numbers.size,
+        whole: held.whole,
+        text: described.text,
+        numbers: described.numbers,
         n,
-        space,
-        first,
-        window: part.size,
+        space: held.space,
+        first: held.first,
+        window: held.window,
     }
 }

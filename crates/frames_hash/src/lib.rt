@@ -46,8 +46,8 @@ fn with_bytes(h: u64, bytes: &[u8]) -> u64
     sum
 }
 
-// The eight bytes of a number.
-fn with_number(h: u64, z: i64) -> u64
+// The eight bytes of a number, behind those before them.
+pub fn with_number(h: u64, z: i64) -> u64
     ensures { λ r. ⌜ r ≡ hashFrom h (bytesOf 8 (complement 8 z)) ⌝ }
 {
     let mut bytes = [0u8; 8];

@@ -7,7 +7,6 @@ use native.Mathlib.Omega.{arith}
 use borrow.Author.Needs.{needs}
 use lib.IntN.{ℤ, natAbs}
 use lib.ListN.{length, take, drop, length-take, length-drop}
-use Rattle.cdi.specs.Faults.{Answer}
 use Rattle.cdi.specs.Values.{withSign}
 use Rattle.cdi.specs.Plans.{isPlan}
 use Rattle.cdi.specs.Access.{integer, read, kindOfValue}
@@ -16,19 +15,9 @@ use Rattle.access_reading.specs.Told.{readingOf, ReadAt}
 use Rattle.access_reading.specs.declared.Reading.{Reading}
 use Rattle.access_reading.specs.declared.Reading.the-variants.{Integer, Event, Text, Refused}
 use Rattle.access.specs.Told.{startFor}
-use Rattle.planksling_out.specs.Outcomes.{numberIn, placeAfter, valueAfter}
+use Rattle.outcomes.specs.Outcomes.{numberIn}
 use Rattle.planksling_out.specs.Readings.{bitOf, negativeIn, numberOf, fromIn, toIn, shownAt, showing, shownOf}
 use Rattle.planksling.specs.Answers.{tested, shown}
-
-module _ {A : Type 0} {u v : Answer A} where
-  pub told-number : {x : ℕ} → x ≡ numberIn u → u ≡ v → x ≡ numberIn v
-  told-number p e = rw (← e) p
-
-  pub told-place : (y : ℕ) {x : ℕ} → x ≡ placeAfter u y → u ≡ v → x ≡ placeAfter v y
-  told-place y p e = rw (← e) p
-
-  pub told-value : (value : A → ℕ) (y : ℕ) {x : ℕ} → x ≡ valueAfter value u y → u ≡ v → x ≡ valueAfter value v y
-  told-value value y p e = rw (← e) p
 
 -- ── a table alone ──
 

@@ -13,7 +13,7 @@ use Rattle.cdi.specs.Access.{Window, Value, windowAfter}
 use Rattle.locate.proofs.Once.{once}
 use Rattle.listing.specs.Batch.{batch, listed, outAfter}
 use Rattle.listing.proofs.Once as listing
-use Rattle.planksling_out.specs.Outcomes.{numberIn, placeAfter, valueAfter}
+use Rattle.outcomes.specs.Outcomes.{numberIn, placeAfter, valueAfter}
 
 -- ── what is handed out of an answer: of every call but planksling_list_checked ──
 

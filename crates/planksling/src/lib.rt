@@ -4,4 +4,5 @@
 pub mod locating; // variables of a table alone
 pub mod planning; // texts and tables
 pub mod reading; // values out of a window
+pub mod sessions; // edits that can be taken back
 pub mod writing; // values into a window

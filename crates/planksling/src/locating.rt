@@ -12,7 +12,7 @@ ghost use lib.ListN.{length};
 ghost use Rattle.cdi.specs.Walk.{Found, walk};
 ghost use Rattle.cdi.specs.Plans.{isPlan, segmentsOf, variableOf, locating};
 ghost use Rattle.listing.specs.Batch.{batch, listed, listing, outAfter};
-ghost use Rattle.planksling_out.specs.Outcomes.{numberIn, valueAfter};
+ghost use Rattle.outcomes.specs.Outcomes.{numberIn, valueAfter};
 
 // Variable n of any table; or 20, 21.
 #[no_mangle]

@@ -8,7 +8,7 @@ use planksling_out::tell_planned;
 ghost use mathlib.Core.Path.{_≡_};
 ghost use Rattle.cdi.specs.Planning.{Counts, planned, tableAfter};
 ghost use Rattle.access_lookup.specs.Told.{knownOf};
-ghost use Rattle.planksling_out.specs.Outcomes.{numberIn, placeAfter, valueAfter};
+ghost use Rattle.outcomes.specs.Outcomes.{numberIn, placeAfter, valueAfter};
 ghost use Rattle.planksling.specs.Answers.{tested};
 
 // Plans a text into the table. Refusals: 1 to 7, 81 to 88, 9 to 13.

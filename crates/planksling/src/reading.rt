@@ -6,7 +6,7 @@ use planksling_out::tell_read;
 ghost use mathlib.Core.Path.{_≡_};
 ghost use Rattle.cdi.specs.Faults.{accepted};
 ghost use Rattle.access_lookup.specs.Told.{knownOf};
-ghost use Rattle.planksling_out.specs.Outcomes.{numberIn, placeAfter, valueAfter};
+ghost use Rattle.outcomes.specs.Outcomes.{numberIn, placeAfter, valueAfter};
 ghost use Rattle.planksling_out.specs.Readings.{Shown};
 ghost use Rattle.planksling.specs.Answers.{shown};
 

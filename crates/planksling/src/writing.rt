@@ -14,7 +14,7 @@ ghost use Rattle.maps.specs.Matches.{wantedOf};
 ghost use Rattle.maps.specs.declared.Wanted.the-variants.{Number, Event, Text};
 ghost use Rattle.access_lookup.specs.Told.{knownOf};
 ghost use Rattle.access_kinds.specs.Told.{windowOf, noText};
-ghost use Rattle.planksling_out.specs.Outcomes.{numberIn, placeAfter};
+ghost use Rattle.outcomes.specs.Outcomes.{numberIn, placeAfter};
 
 // ── of any text and any table ──
 

@@ -1,3 +1,2 @@
 -- What the library hands out.
-pub mod Outcomes
 pub mod Readings

@@ -18,7 +18,7 @@ ghost use Rattle.locate.specs.Answers.{toldOf};
 ghost use Rattle.listing.specs.Told.{listingOf};
 ghost use Rattle.access_checked.specs.Told.{checkedOf};
 ghost use Rattle.access_writing.specs.Told.{writtenOf};
-ghost use Rattle.planksling_out.specs.Outcomes.{numberIn, placeAfter, valueAfter};
+ghost use Rattle.outcomes.specs.Outcomes.{numberIn, placeAfter, valueAfter};
 ghost use Rattle.planksling_out.specs.Readings.{Shown, bitOf, shownOf};
 
 // Of planning: the records and the variables.

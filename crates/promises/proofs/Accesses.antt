@@ -214,6 +214,19 @@ module _ {m p : ℕ} where
   access-checked hi l f h (why.number e k j q s) = (omega arith, omega arith, s)
   access-checked hi l f h (why.variable {s = s} e o) = let k = f s o in (omega arith, omega arith, k .2)
 
+-- those of a text with its table
+pub exact-number : (b : List ℕ) (t : List ℤ) (f : Fault) → (described b andThen exact t) ≡ refused f → TextNumber (f .number) ⊎ (f ≡ fault 20 0)
+unfolding exact
+exact-number b t f e = by (described b) refl e
+  where
+    same : (x : Bool) (d : Description) → cond x (accepted d) (refused (fault 20 0)) ≡ refused f → f ≡ fault 20 0
+    same true d e = impossible (cc)
+    same false d e = cc
+
+    by : (a : Answer Description) → described b ≡ a → (a andThen exact t) ≡ refused f → TextNumber (f .number) ⊎ (f ≡ fault 20 0)
+    by (accepted d) q e = inr (same (sameTable t (tableOf (d .segments))) d e)
+    by (refused g) q e = let z : g ≡ f = cc in inl (described-number b f (rw z at q))
+
 -- ── of the code's answers ──
 
 passes-all : (w : Window) (v : Value) (s : Setting) → Passed w v s → firstCause (writeCauses w v s) ≡ accepted tt

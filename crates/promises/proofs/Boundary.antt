@@ -27,7 +27,7 @@ use Rattle.access_reading.specs.Told.{readingOf, ReadAt}
 use Rattle.access_reading.specs.declared.Reading.the-variants as reading
 use Rattle.access_writing.specs.Told.{writtenOf}
 use Rattle.access_writing.specs.declared.Written.the-variants as write
-use Rattle.planksling_out.specs.Outcomes.{numberIn, valueAfter}
+use Rattle.outcomes.specs.Outcomes.{numberIn, valueAfter}
 use Rattle.planksling_out.specs.Readings.{showing}
 use Rattle.planksling.specs.Answers.{tested, shown}
 use Rattle.promises.proofs.Terms.{TextNumber}
@@ -39,7 +39,7 @@ use Rattle.promises.proofs.Calls as calls
 
 module _ {A : Type 0} where
   -- no refusal has the number 0
-  abbrev Numbered : Answer A → Type 0
+  abbrev pub Numbered : Answer A → Type 0
   Numbered a = (f : Fault) → a ≡ refused f → 1 ≤ f .number
 
   pub zero-accepts : (a : Answer A) → Numbered a → 0 ≡ numberIn a → (x : A) × (a ≡ accepted x)
@@ -47,7 +47,7 @@ module _ {A : Type 0} where
   zero-accepts (accepted x) k e = (x, refl)
   zero-accepts (refused f) k e = absurd (omega (arith, k f refl))
 
-text-positive : (m : ℕ) → TextNumber m → 1 ≤ m
+pub text-positive : (m : ℕ) → TextNumber m → 1 ≤ m
 text-positive m (inl h) = omega arith
 text-positive m (inr (inl (inl h))) = omega arith
 text-positive m (inr (inl (inr h))) = omega arith
@@ -64,16 +64,12 @@ module _ (b : List ℕ) (t : List ℤ) where
   plan-numbered f e = ⊎-elim (text-positive (f .number)) (λ z. omega arith) (steps.refused-number b t {r = Refused (f .number) (f .place)} (sym e) refl)
 
   pub check-numbered : Numbered (knownOf b t)
-  unfolding knownOf exact
-  check-numbered f e = by (described b) refl e
+  unfolding knownOf
+  check-numbered f e = by (described b andThen exact t) refl e
     where
-      same : (x : Bool) (d : Description) → (cond x (accepted d) (refused (fault 20 0)) andThen λ d. accepted (endIn b)) ≡ refused f → 1 ≤ f .number
-      same true d e = impossible (cc)
-      same false d e = let z : f ≡ fault 20 0 = cc in rw z (omega arith)
-
-      by : (a : Answer Description) → described b ≡ a → (a andThen exact t andThen λ d. accepted (endIn b)) ≡ refused f → 1 ≤ f .number
-      by (accepted d) q e = same (sameTable t (tableOf (d .segments))) d e
-      by (refused g) q e = let z : g ≡ f = cc in text-positive (f .number) (steps.stage-numbers b [] f .0 (rw z at q))
+      by : (a : Answer Description) → (described b andThen exact t) ≡ a → (a andThen λ d. accepted (endIn b)) ≡ refused f → 1 ≤ f .number
+      by (accepted d) q e = impossible (cc)
+      by (refused g) q e = let z : g ≡ f = cc in ⊎-elim (text-positive (f .number)) (λ y. rw y (omega arith)) (accesses.exact-number b t f (rw z at q))
 
   module _ (n : ℕ) (w : Window) where
     pub write-numbered : (v : Value) → Numbered (written b t n w v)

@@ -6,3 +6,4 @@ pub mod Accesses
 pub mod Calls
 pub mod Page
 pub mod Boundary
+pub mod Sessions

@@ -1,7 +1,7 @@
 use borrow.Author.Needs.{needs}
 use Rattle.listing.specs.Told.{listingOf}
-use Rattle.planksling_out.specs.Outcomes.{numberIn, valueAfter}
-use Rattle.planksling_out.proofs.Telling.{number-by, value-by}
+use Rattle.outcomes.specs.Outcomes.{numberIn, valueAfter}
+use Rattle.outcomes.proofs.Telling.{number-by, value-by}
 use Rattle.planksling_out.proofs.tell_listed.Statement.{statement}
 use Rattle.planksling_out.proofs.tell_listed.Tie as tie
 

@@ -1,7 +1,7 @@
 use borrow.Author.Needs.{needs}
 use Rattle.plan_stages.specs.Outlines.{answerOf}
-use Rattle.planksling_out.specs.Outcomes.{numberIn, placeAfter, valueAfter}
-use Rattle.planksling_out.proofs.Telling.{number-by, place-by, value-by}
+use Rattle.outcomes.specs.Outcomes.{numberIn, placeAfter, valueAfter}
+use Rattle.outcomes.proofs.Telling.{number-by, place-by, value-by}
 use Rattle.planksling_out.proofs.tell_planned.Statement.{statement}
 use Rattle.planksling_out.proofs.tell_planned.Tie as tie
 

@@ -1,7 +1,7 @@
 use borrow.Author.Needs.{needs}
 use Rattle.planksling_out.specs.Readings.{shownOf}
-use Rattle.planksling_out.specs.Outcomes.{numberIn, placeAfter, valueAfter}
-use Rattle.planksling_out.proofs.Telling.{number-by, place-by, value-by}
+use Rattle.outcomes.specs.Outcomes.{numberIn, placeAfter, valueAfter}
+use Rattle.outcomes.proofs.Telling.{number-by, place-by, value-by}
 use Rattle.planksling_out.proofs.tell_read.Statement.{statement}
 use Rattle.planksling_out.proofs.tell_read.Tie as tie
 

@@ -1,7 +1,7 @@
 use borrow.Author.Needs.{needs}
 use Rattle.access_writing.specs.Told.{writtenOf}
-use Rattle.planksling_out.specs.Outcomes.{numberIn, placeAfter}
-use Rattle.planksling_out.proofs.Telling.{number-by, place-by}
+use Rattle.outcomes.specs.Outcomes.{numberIn, placeAfter}
+use Rattle.outcomes.proofs.Telling.{number-by, place-by}
 use Rattle.planksling_out.proofs.tell_written.Statement.{statement}
 use Rattle.planksling_out.proofs.tell_written.Tie as tie
 

@@ -1,5 +1,6 @@
 use borrow.Author.Needs.{needs}
-use Rattle.planksling.proofs.Calls.{shown-told, told-number, told-value}
+use Rattle.outcomes.proofs.Telling.{told-number, told-value}
+use Rattle.planksling.proofs.Calls.{shown-told}
 use Rattle.planksling.proofs.reading.planksling_read_checked.Statement.{statement}
 use Rattle.planksling.proofs.reading.planksling_read_checked.Tie as tie
 

@@ -1,5 +1,5 @@
 use borrow.Author.Needs.{needs}
-use Rattle.planksling.proofs.Calls.{told-number, told-place}
+use Rattle.outcomes.proofs.Telling.{told-number, told-place}
 use Rattle.planksling.proofs.writing.planksling_write_event.Statement.{statement}
 use Rattle.planksling.proofs.writing.planksling_write_event.Tie as tie
 

@@ -1,0 +1,44 @@
+use mathlib.Core.Path.{_≡_}
+use Prim.Native.Nat.{_≤_, _-_}
+use lib.ListN.{length}
+use borrow.Author.Needs.{needs}
+use Rattle.answers_sessions.proofs.operations.Statement.{statement}
+use Rattle.answers_sessions.proofs.operations.Tie as tie
+
+abbrev Inv-loop : tie.InvT-loop
+Inv-loop text table space first window₀ journal₀ session value₀ numbers₀ places₀ stands₀ steps₀ i₀ window journal value numbers places stands steps i =
+    (length numbers ≡ length numbers₀) × (length places ≡ length places₀) × (length window ≡ length window₀)
+    × (length journal ≡ length journal₀) × (length value ≡ length value₀) × Unit {0}
+
+abbrev μ-loop : tie.MeasureT-loop
+μ-loop text table space first window₀ journal₀ session value₀ numbers₀ places₀ stands₀ steps₀ i₀ window journal value numbers places stands steps i = length numbers₀ - i
+
+pub operations-spec : {M : Type 1} → statement M
+operations-spec =
+    tie.close (tie.spec
+    Inv-loop
+    μ-loop
+    (λ c. search needs)
+    (λ c κs. search needs)
+    (λ c. search needs)
+    (λ c κs. search needs)
+    (λ c. search needs)
+    (λ c. search needs)
+    (λ c. search needs)
+    (λ c. search needs)
+    (λ c. search needs)
+    (λ c. search needs)
+    (λ c. search needs)
+    (λ c. search needs)
+    (λ c. search needs)
+    (λ c. search needs)
+    (λ c κs. search needs)
+    (λ c. search needs)
+    (λ c. search needs)
+    (λ c. (search needs, search needs, search needs, search needs, search needs, tt))
+    (λ c. search needs)
+    (λ c. search needs)
+    (λ c. search needs)
+    (λ c. search needs)
+    (λ c. search needs)
+    (λ c. search needs))

@@ -1,2 +1,0 @@
--- The laws of what is handed out.
-pub mod Telling

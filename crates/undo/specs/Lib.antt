@@ -1,0 +1,2 @@
+-- The words of edits by number.
+pub mod Told

@@ -1,0 +1,2 @@
+-- The laws of edits.
+pub mod Editing

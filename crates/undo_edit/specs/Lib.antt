@@ -1,0 +1,2 @@
+-- The words of edits.
+pub mod Told

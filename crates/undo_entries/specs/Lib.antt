@@ -1,0 +1,2 @@
+-- What the walk along a journal answers.
+pub mod Begun

@@ -1,0 +1,3 @@
+-- The laws of taking back.
+pub mod Taking
+pub mod Undoing

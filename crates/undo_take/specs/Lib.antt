@@ -1,0 +1,2 @@
+-- The words of taking back.
+pub mod Held
