@@ -10,7 +10,8 @@
  *   single numbers included, may overlap anything else that is lent.
  * - What a call hands out goes through single numbers. An accepted call writes each of them but `place`, which stays as it was. A refused call writes
  *   `place`, where it has one, and leaves the others.
- * - A refused call leaves all lent memory (table, window, out) as it was.
+ * - `session` is handed in and out: an accepted call writes it, a refused one leaves it.
+ * - A refused call leaves all lent memory (table, window, out, journal) as it was.
  * - A place counts bytes of the text from 0.
  * - Nothing is kept between calls, and there is no heap: any number of threads may call at once. A call that reads a whole text was measured to take
  *   about 280,000 bytes of stack for a description of 60 KB, and at most about 550,000 for any text that was tried; docs/LIBRARY.md has the figures.
@@ -39,6 +40,8 @@ extern "C" {
 #define PLANKSLING_MOST_RECORDS 4095      /* records of a table: every element but cdi */
 #define PLANKSLING_MOST_NUMBERS 32760     /* a table of so many numbers has room for every description */
 #define PLANKSLING_LISTED 5               /* numbers of a listed variable */
+#define PLANKSLING_MOST_EDITS 64          /* edits of a session that stand at a time */
+#define PLANKSLING_JOURNAL_ROOM 65536     /* bytes of a journal that are used; a shorter one is used as far as it goes */
 
 /* --- kinds of records, variables and values --- */
 
@@ -83,6 +86,9 @@ extern "C" {
 #define PLANKSLING_OUTSIDE_WINDOW 26  /* wrong space, or not wholly inside the window */
 #define PLANKSLING_WITHHELD 27        /* a float; when writing, also an eventid with a map */
 #define PLANKSLING_UNREADABLE_TEXT 28 /* no zero in the text, or not UTF-8 before it */
+#define PLANKSLING_JOURNAL_FULL 30    /* 64 edits stand, or the journal lacks room for one more */
+#define PLANKSLING_NOTHING_TO_UNDO 31 /* no edit stands */
+#define PLANKSLING_BAD_ENTRY 35       /* the latest entry doesn't lie in the journal, or isn't that of a variable inside the window */
 
 /* --- calls for any input: whatever bytes, numbers and lengths come in, they accept or refuse --- */
 
@@ -209,6 +215,77 @@ size_t planksling_read(
     size_t *place);
 
 /*
+ * Edits that can be taken back. A session is over one text, table and window, and a journal, which keeps the bytes that edits replaced. `session` is how
+ * many edits stand: 0 opens a session, with any bytes as its journal, and each call takes the number that the last one left.
+ *
+ * An edit writes as planksling_write_.. does and stores an entry behind those that stand: number and size of the variable, 4 bytes each, big-endian, then
+ * its old bytes; the first entry is at byte 0. A value that is there already is an edit too. Undo takes back the latest edit: its old bytes stand in the
+ * window again, `session` is one less, and the next edit is stored over its entry. No other byte of window and journal changes, and none of the journal
+ * from PLANKSLING_JOURNAL_ROOM on is looked at. A refused call leaves session, window and journal as they were.
+ *
+ * After any calls of a session, accepted and refused, the window holds what the edits that stand would alone have made of the window at the opening. That
+ * is promised where each call gets the same text, table, window (its space and first address too) and journal and the last call's session, and nothing
+ * else writes to these. Without that any session and any journal may be handed in all the same: each call accepts or refuses as it says.
+ *
+ * Refusals of an edit, in their order: 1 to 7, 81 to 88, 9 to 12; 20, 21, 27, 22; those told at each call; 26; 30, where 64 edits stand or the journal
+ * has no room for 8 bytes and the variable's size behind the entries. A string of 65,529 bytes or more never has it.
+ *
+ * Refusals of undo, in their order: 1 to 7, 81 to 88, 9 to 12; 20; 31; 35, where the latest entry, or one before it, doesn't lie in the journal, or its
+ * number and size aren't those of a variable wholly inside the window.
+ */
+
+/* Edits with an integer, told as to planksling_write_integer. Refusals also: 23, 24. */
+size_t planksling_edit_integer(
+    const uint8_t *text, size_t text_length,
+    const int64_t *table, size_t table_length,
+    uint64_t n,
+    uint64_t space,
+    uint64_t first,
+    uint8_t *window, size_t window_length,
+    uint8_t *journal, size_t journal_length,
+    uint64_t *session,
+    uint64_t negative,
+    uint64_t magnitude,
+    size_t *place);
+
+/* Edits with an event ID. */
+size_t planksling_edit_event(
+    const uint8_t *text, size_t text_length,
+    const int64_t *table, size_t table_length,
+    uint64_t n,
+    uint64_t space,
+    uint64_t first,
+    uint8_t *window, size_t window_length,
+    uint8_t *journal, size_t journal_length,
+    uint64_t *session,
+    uint64_t id,
+    size_t *place);
+
+/* Edits with a text, as planksling_write_text. Refusals also: 25, 24. */
+size_t planksling_edit_text(
+    const uint8_t *text, size_t text_length,
+    const int64_t *table, size_t table_length,
+    uint64_t n,
+    uint64_t space,
+    uint64_t first,
+    uint8_t *window, size_t window_length,
+    uint8_t *journal, size_t journal_length,
+    uint64_t *session,
+    const uint8_t *string, size_t string_length,
+    size_t *place);
+
+/* Takes the latest edit back. The journal is only read. */
+size_t planksling_undo(
+    const uint8_t *text, size_t text_length,
+    const int64_t *table, size_t table_length,
+    uint64_t space,
+    uint64_t first,
+    uint8_t *window, size_t window_length,
+    const uint8_t *journal, size_t journal_length,
+    uint64_t *session,
+    size_t *place);
+
+/*
  * --- calls for a table that has been checked ---
  *
  * They rely on planksling_check_plan having returned 0 for this very table; or on the table being the records, all of them and nothing behind them,
@@ -289,6 +366,57 @@ size_t planksling_read_checked(
     size_t *from,
     size_t *to,
     uint64_t *writable);
+
+/* As planksling_edit_integer. Refusals, in their order: 21, 27, 22, 23, 24, 26, 30. */
+size_t planksling_edit_integer_checked(
+    const uint8_t *text, size_t text_length,
+    size_t end,
+    const int64_t *table, size_t table_length,
+    uint64_t n,
+    uint64_t space,
+    uint64_t first,
+    uint8_t *window, size_t window_length,
+    uint8_t *journal, size_t journal_length,
+    uint64_t *session,
+    uint64_t negative,
+    uint64_t magnitude);
+
+/* As planksling_edit_event. Refusals, in their order: 21, 27, 22, 26, 30. */
+size_t planksling_edit_event_checked(
+    const uint8_t *text, size_t text_length,
+    size_t end,
+    const int64_t *table, size_t table_length,
+    uint64_t n,
+    uint64_t space,
+    uint64_t first,
+    uint8_t *window, size_t window_length,
+    uint8_t *journal, size_t journal_length,
+    uint64_t *session,
+    uint64_t id);
+
+/* As planksling_edit_text. Refusals, in their order: 21, 27, 22, 25, 24, 26, 30. */
+size_t planksling_edit_text_checked(
+    const uint8_t *text, size_t text_length,
+    size_t end,
+    const int64_t *table, size_t table_length,
+    uint64_t n,
+    uint64_t space,
+    uint64_t first,
+    uint8_t *window, size_t window_length,
+    uint8_t *journal, size_t journal_length,
+    uint64_t *session,
+    const uint8_t *string, size_t string_length);
+
+/* As planksling_undo. Refusals, in their order: 31, 35. */
+size_t planksling_undo_checked(
+    const uint8_t *text, size_t text_length,
+    size_t end,
+    const int64_t *table, size_t table_length,
+    uint64_t space,
+    uint64_t first,
+    uint8_t *window, size_t window_length,
+    const uint8_t *journal, size_t journal_length,
+    uint64_t *session);
 
 #ifdef __cplusplus
 }

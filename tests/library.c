@@ -1,7 +1,8 @@
 /*
  * Tests the library across its C boundary: which numbers and which memory each call writes and leaves, every refusal, every kind of value at its
- * extremes, checked calls against the others, and two threads at once. All lent memory ends where a page begins that can't be touched, so that a byte
- * read or written behind it ends the program. Prints how many checks were made; the status is 1 at the first that fails, which is told.
+ * extremes, edits and taking them back, checked calls against the others, and two threads at once. All lent memory ends where a page begins that can't
+ * be touched, so that a byte read or written behind it ends the program. Prints how many checks were made; the status is 1 at the first that fails,
+ * which is told.
  */
 #define _DEFAULT_SOURCE /* pages and threads, which C99 itself hasn't */
 #include <pthread.h>
@@ -238,6 +239,107 @@ static size_t write_checked(struct bytes text, size_t end, struct table table, u
                                          (const uint8_t *)value.string, value.length);
 }
 
+/* --- sessions --- */
+
+/* What a session is over: a window and a journal, and how many edits stand. */
+struct session {
+    uint64_t space, first;
+    struct bytes window, journal;
+    uint64_t standing;
+};
+
+static struct bytes bytes_like(struct bytes bytes)
+{
+    struct bytes copy;
+
+    copy.length = bytes.length;
+    copy.at = (uint8_t *)copy_of(bytes.at, bytes.length);
+    return copy;
+}
+
+static struct session session_like(struct session session)
+{
+    struct session copy = session;
+
+    copy.window = bytes_like(session.window);
+    copy.journal = bytes_like(session.journal);
+    return copy;
+}
+
+static void end_session(struct session session)
+{
+    give_back(session.window.at, session.window.length);
+    give_back(session.journal.at, session.journal.length);
+}
+
+static int is_same_session(struct session one, struct session other)
+{
+    return one.standing == other.standing && is_same(one.window.at, other.window.at, one.window.length) &&
+           is_same(one.journal.at, other.journal.at, one.journal.length);
+}
+
+/* Editing, by the call for this kind of value; a refusal leaves all of the session. */
+static struct told edit_any(struct bytes text, struct table table, uint64_t n, struct session *session, struct value value)
+{
+    struct told told = nothing;
+    struct session before = session_like(*session);
+    struct bytes window = session->window, journal = session->journal;
+    uint64_t space = session->space, first = session->first;
+
+    if (value.kind == PLANKSLING_INT)
+        told.refusal = planksling_edit_integer(text.at, text.length, table.at, table.length, n, space, first, window.at, window.length, journal.at,
+                                               journal.length, &session->standing, value.negative, value.number, &told.place);
+    else if (value.kind == PLANKSLING_EVENTID)
+        told.refusal = planksling_edit_event(text.at, text.length, table.at, table.length, n, space, first, window.at, window.length, journal.at,
+                                             journal.length, &session->standing, value.number, &told.place);
+    else
+        told.refusal = planksling_edit_text(text.at, text.length, table.at, table.length, n, space, first, window.at, window.length, journal.at,
+                                            journal.length, &session->standing, (const uint8_t *)value.string, value.length, &told.place);
+    CHECK((told.refusal == 0) == (told.place == MARK));
+    CHECK(told.refusal == 0 ? session->standing == before.standing + 1 : is_same_session(*session, before));
+    end_session(before);
+    return told;
+}
+
+static size_t edit_checked(struct bytes text, size_t end, struct table table, uint64_t n, struct session *session, struct value value)
+{
+    struct bytes window = session->window, journal = session->journal;
+    uint64_t space = session->space, first = session->first;
+
+    if (value.kind == PLANKSLING_INT)
+        return planksling_edit_integer_checked(text.at, text.length, end, table.at, table.length, n, space, first, window.at, window.length, journal.at,
+                                               journal.length, &session->standing, value.negative, value.number);
+    if (value.kind == PLANKSLING_EVENTID)
+        return planksling_edit_event_checked(text.at, text.length, end, table.at, table.length, n, space, first, window.at, window.length, journal.at,
+                                             journal.length, &session->standing, value.number);
+    return planksling_edit_text_checked(text.at, text.length, end, table.at, table.length, n, space, first, window.at, window.length, journal.at,
+                                        journal.length, &session->standing, (const uint8_t *)value.string, value.length);
+}
+
+/* Taking back; the journal is as it was in any case. */
+static struct told undo_any(struct bytes text, struct table table, struct session *session)
+{
+    struct told told = nothing;
+    struct session before = session_like(*session);
+    struct bytes window = session->window, journal = session->journal;
+
+    told.refusal = planksling_undo(text.at, text.length, table.at, table.length, session->space, session->first, window.at, window.length, journal.at,
+                                   journal.length, &session->standing, &told.place);
+    CHECK((told.refusal == 0) == (told.place == MARK));
+    CHECK(is_same(journal.at, before.journal.at, journal.length));
+    CHECK(told.refusal == 0 ? session->standing == before.standing - 1 : is_same_session(*session, before));
+    end_session(before);
+    return told;
+}
+
+static size_t undo_checked(struct bytes text, size_t end, struct table table, struct session *session)
+{
+    struct bytes window = session->window, journal = session->journal;
+
+    return planksling_undo_checked(text.at, text.length, end, table.at, table.length, session->space, session->first, window.at, window.length, journal.at,
+                                   journal.length, &session->standing);
+}
+
 /* --- texts --- */
 
 #define FIRST "<?xml version=\"1.0\"?>\n"
@@ -355,6 +457,34 @@ static struct told answer(size_t refusal, size_t place)
     return told;
 }
 
+/* A session over so many bytes of SPACE from ORIGIN on, with a journal of so many. */
+static struct session new_session(size_t length, size_t room)
+{
+    struct session made;
+
+    made.space = SPACE;
+    made.first = ORIGIN;
+    made.window = new_window(length, 0xEE);
+    made.journal = new_window(room, 0x5A);
+    made.standing = 0;
+    return made;
+}
+
+/* All calls of a session are refused so, however many edits stand. */
+static void refuses_session(struct bytes bad, struct table other, struct session *session, struct told wanted)
+{
+    static const uint64_t standing[] = {0, 1, PLANKSLING_MOST_EDITS, UINT64_MAX};
+    size_t i;
+
+    for (i = 0; i < sizeof standing / sizeof *standing; i++) {
+        session->standing = standing[i];
+        CHECK(is_told_as(edit_any(bad, other, BYTE, session, integer(0, 1)), wanted));
+        CHECK(is_told_as(edit_any(bad, other, EVENT, session, event(1)), wanted));
+        CHECK(is_told_as(edit_any(bad, other, NAME, session, string("A", 1)), wanted));
+        CHECK(is_told_as(undo_any(bad, other, session), wanted));
+    }
+}
+
 /* --- planning and checking --- */
 
 static void plans_the_good_text(void)
@@ -392,6 +522,7 @@ static void refuses_text(struct bytes bad, size_t number, size_t place)
     struct told wanted = answer(number, place);
     struct table room = new_table(PLANKSLING_MOST_NUMBERS);
     struct bytes window = new_window(BEHIND - ORIGIN, 0x11);
+    struct session session = new_session(BEHIND - ORIGIN, 40);
 
     CHECK(is_told_as(plan(bad, room), wanted));
     CHECK(is_told_as(plan(bad, new_table(0)), wanted));
@@ -400,6 +531,8 @@ static void refuses_text(struct bytes bad, size_t number, size_t place)
     CHECK(is_told_as(write_any(bad, table, EVENT, SPACE, ORIGIN, window, event(1)), wanted));
     CHECK(is_told_as(write_any(bad, table, NAME, SPACE, ORIGIN, window, string("A", 1)), wanted));
     CHECK(is_told_as(read_by(0, bad, 0, table, BYTE, SPACE, ORIGIN, window), wanted));
+    refuses_session(bad, table, &session, wanted);
+    end_session(session);
     give_back(room.at, room.length * sizeof *room.at);
     give_back(window.at, window.length);
 }
@@ -437,6 +570,7 @@ static void refuses_table(struct table other, int is_plan)
 {
     struct told wanted = answer(PLANKSLING_NOT_A_PLAN, 0);
     struct bytes window = new_window(BEHIND - ORIGIN, 0x11);
+    struct session session = new_session(BEHIND - ORIGIN, 40);
     uint64_t out[PLANKSLING_LISTED], before[PLANKSLING_LISTED];
     size_t count = MARK;
 
@@ -453,6 +587,8 @@ static void refuses_table(struct table other, int is_plan)
     CHECK(is_told_as(write_any(text, other, EVENT, SPACE, ORIGIN, window, event(1)), wanted));
     CHECK(is_told_as(write_any(text, other, NAME, SPACE, ORIGIN, window, string("A", 1)), wanted));
     CHECK(is_told_as(read_by(0, text, 0, other, BYTE, SPACE, ORIGIN, window), wanted));
+    refuses_session(text, other, &session, wanted);
+    end_session(session);
     give_back(window.at, window.length);
 }
 
@@ -723,6 +859,324 @@ static void reads(void)
     CHECK(told.refusal == 0 && told.from == 39 && told.to == 40 && told.writable == 0);
 }
 
+/* --- edits that can be taken back --- */
+
+/* One edit by both calls; what is refused as a write is refused so as an edit. Returns the refusal. */
+static size_t edits(struct session *session, uint64_t n, struct value value)
+{
+    struct session other = session_like(*session);
+    struct bytes written = bytes_like(session->window);
+    size_t refusal = edit_any(text, table, n, session, value).refusal;
+    size_t as_write = write_any(text, table, n, session->space, session->first, written, value).refusal;
+
+    CHECK(edit_checked(text, end, table, n, &other, value) == refusal);
+    CHECK(is_same_session(*session, other));
+    CHECK(refusal == as_write || (as_write == 0 && refusal == PLANKSLING_JOURNAL_FULL));
+    CHECK(refusal != 0 || is_same(session->window.at, written.at, written.length));
+    give_back(written.at, written.length);
+    end_session(other);
+    return refusal;
+}
+
+/* One undo by both calls. */
+static size_t undoes(struct session *session)
+{
+    struct session other = session_like(*session);
+    size_t refusal = undo_any(text, table, session).refusal;
+
+    CHECK(undo_checked(text, end, table, &other) == refusal);
+    CHECK(is_same_session(*session, other));
+    end_session(other);
+    return refusal;
+}
+
+/* Does an entry of this number and these old bytes stand here? The place behind it. */
+static size_t has_entry(struct bytes journal, size_t at, uint64_t n, const uint8_t *old, size_t size)
+{
+    uint8_t head[8] = {0};
+
+    head[2] = (uint8_t)(n >> 8);
+    head[3] = (uint8_t)n;
+    head[6] = (uint8_t)(size >> 8);
+    head[7] = (uint8_t)size;
+    CHECK(at + 8 + size <= journal.length && is_same(journal.at + at, head, 8) && is_same(journal.at + at + 8, old, size));
+    return at + 8 + size;
+}
+
+/* Puts an entry of this number and size at a place of a journal, with old bytes from 1 on as far as there is room. The place behind it. */
+static size_t put_entry(struct bytes journal, size_t at, uint64_t n, uint64_t size)
+{
+    size_t i, behind = at + 8 + (size_t)size;
+
+    for (i = 0; i < 4; i++) {
+        journal.at[at + i] = (uint8_t)(n >> 8 * (3 - i));
+        journal.at[at + 4 + i] = (uint8_t)(size >> 8 * (3 - i));
+    }
+    for (i = at + 8; i < behind && i < journal.length; i++)
+        journal.at[i] = (uint8_t)(i - at - 7);
+    return behind;
+}
+
+static void takes_back(void)
+{
+    struct session session = new_session(BEHIND - ORIGIN, 100);
+    struct bytes opening = bytes_like(session.window), second;
+    size_t at;
+
+    about = "edits and taking back";
+    CHECK(undoes(&session) == PLANKSLING_NOTHING_TO_UNDO);
+    CHECK(edits(&session, WIDE, integer(0, 0x0102030405060708u)) == 0 && session.standing == 1);
+    second = bytes_like(session.window);
+    CHECK(edits(&session, NAME, string("abc", 3)) == 0);
+    CHECK(edits(&session, EVENT, event(9)) == 0);
+    CHECK(edits(&session, BOUNDED, integer(0, 10)) == PLANKSLING_OUT_OF_BOUNDS);
+    /* a value that is there already is an edit too */
+    CHECK(edits(&session, NAME, string("abc", 3)) == 0 && session.standing == 4);
+    at = has_entry(session.journal, 0, WIDE, opening.at + 7, 8);
+    at = has_entry(session.journal, at, NAME, opening.at + 32, 6);
+    at = has_entry(session.journal, at, EVENT, opening.at + 47, 8);
+    at = has_entry(session.journal, at, NAME, (const uint8_t *)"abc\0\0", 6);
+    for (; at < session.journal.length; at++)
+        CHECK(session.journal.at[at] == 0x5A);
+    CHECK(undoes(&session) == 0);
+    CHECK(memcmp(session.window.at + 32, "abc\0\0", 6) == 0);
+    CHECK(undoes(&session) == 0);
+    CHECK(undoes(&session) == 0 && session.standing == 1);
+    CHECK(is_same(session.window.at, second.at, second.length));
+    /* the room is used again */
+    CHECK(edits(&session, BYTE, integer(0, 5)) == 0);
+    has_entry(session.journal, 16, BYTE, opening.at, 1);
+    CHECK(undoes(&session) == 0 && undoes(&session) == 0);
+    CHECK(is_same(session.window.at, opening.at, opening.length));
+    CHECK(undoes(&session) == PLANKSLING_NOTHING_TO_UNDO);
+    give_back(opening.at, opening.length);
+    give_back(second.at, second.length);
+    end_session(session);
+}
+
+/* 64 edits and the next, with a journal that they fill to its last byte. */
+static void keeps_64_edits(void)
+{
+    struct session session = new_session(1, PLANKSLING_MOST_EDITS * 9);
+    uint64_t i;
+
+    about = "64 edits";
+    for (i = 0; i < PLANKSLING_MOST_EDITS; i++)
+        CHECK(edits(&session, BYTE, integer(0, i)) == 0);
+    CHECK(edits(&session, BYTE, integer(0, 200)) == PLANKSLING_JOURNAL_FULL);
+    CHECK(edits(&session, BYTE, integer(0, 256)) == PLANKSLING_OUT_OF_BOUNDS);
+    CHECK(edits(&session, NAME, string("a", 1)) == PLANKSLING_OUTSIDE_WINDOW);
+    CHECK(undoes(&session) == 0 && session.window.at[0] == PLANKSLING_MOST_EDITS - 2);
+    CHECK(edits(&session, BYTE, integer(0, 200)) == 0);
+    CHECK(edits(&session, BYTE, integer(0, 201)) == PLANKSLING_JOURNAL_FULL);
+    while (undoes(&session) == 0)
+        CHECK(session.standing < PLANKSLING_MOST_EDITS);
+    CHECK(session.standing == 0 && session.window.at[0] == 0xEE);
+    end_session(session);
+
+    about = "64 edits, and a journal with room";
+    session = new_session(1, PLANKSLING_JOURNAL_ROOM + 10);
+    for (i = 0; i < PLANKSLING_MOST_EDITS; i++)
+        CHECK(edits(&session, BYTE, integer(0, i)) == 0);
+    CHECK(edits(&session, BYTE, integer(0, 200)) == PLANKSLING_JOURNAL_FULL);
+    end_session(session);
+}
+
+/* Journals of every length: an edit needs 8 bytes and the variable's size. */
+static void has_short_journals(void)
+{
+    size_t room;
+
+    about = "short journals";
+    for (room = 0; room <= 42; room++) {
+        struct session session = new_session(BEHIND - ORIGIN, room);
+        size_t i, left = room;
+
+        for (i = 0; i < 4; i++) {
+            uint64_t n = i % 2 == 0 ? BYTE : WIDE;
+            size_t needed = n == BYTE ? 9 : 16;
+
+            CHECK(edits(&session, n, integer(0, i)) == (needed <= left ? 0 : PLANKSLING_JOURNAL_FULL));
+            left -= needed <= left ? needed : 0;
+        }
+        while (undoes(&session) == 0)
+            continue;
+        for (i = 0; i < session.window.length; i++)
+            CHECK(session.window.at[i] == 0xEE);
+        end_session(session);
+    }
+}
+
+/* Undo with a journal and a number of edits that no session has left. */
+static size_t undoes_any(struct bytes journal, uint64_t standing)
+{
+    struct session session = new_session(BEHIND - ORIGIN, 0);
+    size_t refusal;
+
+    session.journal = bytes_like(journal);
+    session.standing = standing;
+    refusal = undoes(&session);
+    end_session(session);
+    return refusal;
+}
+
+static void takes_any_journal(void)
+{
+    static const uint64_t standing[] = {1, 2, PLANKSLING_MOST_EDITS, PLANKSLING_MOST_EDITS + 1, 0x100000001u, UINT64_MAX};
+    static const uint64_t sizes[] = {0, 7, 9, 10, 65535, 65536, 0x7FFFFFFF, 0xFFFFFFFF};
+    struct bytes journal = new_window(41, 0), part = {NULL, 0};
+    size_t i, length;
+
+    about = "journals of no session";
+    for (i = 0; i < sizeof standing / sizeof *standing; i++) {
+        CHECK(undoes_any(part, standing[i]) == PLANKSLING_BAD_ENTRY);
+        memset(journal.at, 0, journal.length);
+        CHECK(undoes_any(journal, standing[i]) == PLANKSLING_BAD_ENTRY);
+        memset(journal.at, 0xFF, journal.length);
+        CHECK(undoes_any(journal, standing[i]) == PLANKSLING_BAD_ENTRY);
+    }
+    about = "an entry, cut off anywhere";
+    put_entry(journal, 0, WIDE, 8);
+    for (length = 0; length < 20; length++) {
+        part.at = journal.at;
+        part.length = length;
+        CHECK(undoes_any(part, 1) == (length < 16 ? PLANKSLING_BAD_ENTRY : 0));
+        CHECK(undoes_any(part, 0) == PLANKSLING_NOTHING_TO_UNDO);
+    }
+    about = "an entry, and more edits than that";
+    for (i = 1; i < sizeof standing / sizeof *standing; i++)
+        CHECK(undoes_any(journal, standing[i]) == PLANKSLING_BAD_ENTRY);
+    about = "an entry of another size or number";
+    for (i = 0; i < sizeof sizes / sizeof *sizes; i++) {
+        put_entry(journal, 0, WIDE, sizes[i]);
+        CHECK(undoes_any(journal, 1) == PLANKSLING_BAD_ENTRY);
+        put_entry(journal, put_entry(journal, 0, WIDE, 8), WIDE, sizes[i]);
+        CHECK(undoes_any(journal, 2) == PLANKSLING_BAD_ENTRY && undoes_any(journal, 1) == 0);
+    }
+    put_entry(journal, 0, VARIABLES, 8);
+    CHECK(undoes_any(journal, 1) == PLANKSLING_BAD_ENTRY);
+    put_entry(journal, 0, 0xFFFFFFFF, 8);
+    CHECK(undoes_any(journal, 1) == PLANKSLING_BAD_ENTRY);
+    about = "an entry of a variable in another space";
+    put_entry(journal, 0, REAL + 1, 8);
+    CHECK(undoes_any(journal, 1) == PLANKSLING_BAD_ENTRY);
+    about = "an entry of a float, and of an eventid with a map";
+    put_entry(journal, 0, REAL, 4);
+    CHECK(undoes_any(journal, 1) == 0);
+    put_entry(journal, 0, MAPPED_EVENT, 8);
+    CHECK(undoes_any(journal, 1) == 0);
+    about = "entries of nothing before the latest";
+    put_entry(journal, put_entry(journal, put_entry(journal, 0, 99999, 7), 88888, 0), WIDE, 8);
+    CHECK(undoes_any(journal, 3) == 0);
+    CHECK(undoes_any(journal, 2) == PLANKSLING_BAD_ENTRY);
+    give_back(journal.at, journal.length);
+    about = "more edits than can be made";
+    journal = new_window(100 * 9, 0);
+    for (i = 0, length = 0; i < 100; i++)
+        length = put_entry(journal, length, BYTE, 1);
+    CHECK(undoes_any(journal, 100) == 0);
+    CHECK(undoes_any(journal, 101) == PLANKSLING_BAD_ENTRY);
+    give_back(journal.at, journal.length);
+}
+
+/* The first 65,536 bytes of a journal count, whatever its length. */
+static void ends_the_room(void)
+{
+    size_t over, behind, i;
+
+    for (over = 0; over <= 2; over++)
+        for (behind = 0; behind <= 40; behind += 20) {
+            struct session session = new_session(BEHIND - ORIGIN, PLANKSLING_JOURNAL_ROOM + behind + over);
+            size_t before = PLANKSLING_JOURNAL_ROOM - 16 + over;
+
+            about = "an entry at the end of the room, to be taken back";
+            put_entry(session.journal, put_entry(session.journal, 0, 99999, before - 8), WIDE, 8);
+            session.standing = 2;
+            CHECK(undoes(&session) == (over > 0 ? PLANKSLING_BAD_ENTRY : 0));
+            about = "an entry at the end of the room, to be stored";
+            session.standing = 1;
+            memset(session.journal.at + before, 0x5A, session.journal.length - before);
+            CHECK(edits(&session, WIDE, integer(0, 1)) == (over > 0 ? PLANKSLING_JOURNAL_FULL : 0));
+            for (i = PLANKSLING_JOURNAL_ROOM; i < session.journal.length; i++)
+                CHECK(session.journal.at[i] == 0x5A);
+            end_session(session);
+        }
+}
+
+/* An entry of a variable that the window doesn't hold whole. */
+static void misses_the_window(void)
+{
+    struct session session = new_session(15, 16);
+
+    about = "taking back outside the window";
+    put_entry(session.journal, 0, WIDE, 8);
+    session.standing = 1;
+    session.space = SPACE + 1;
+    CHECK(undoes(&session) == PLANKSLING_BAD_ENTRY);
+    session.space = SPACE + ((uint64_t)1 << 32);
+    CHECK(undoes(&session) == PLANKSLING_BAD_ENTRY);
+    session.space = SPACE;
+    session.first = ORIGIN - 1;
+    CHECK(undoes(&session) == PLANKSLING_BAD_ENTRY);
+    session.first = ORIGIN + 8;
+    CHECK(undoes(&session) == PLANKSLING_BAD_ENTRY);
+    session.first = UINT64_MAX;
+    CHECK(undoes(&session) == PLANKSLING_BAD_ENTRY);
+    session.first = ORIGIN;
+    session.window.length = 14;
+    CHECK(undoes(&session) == PLANKSLING_BAD_ENTRY);
+    session.window.length = 15;
+    CHECK(undoes(&session) == 0);
+    CHECK(session.window.at[6] == 0xEE && session.window.at[7] == 1 && session.window.at[14] == 8);
+    end_session(session);
+}
+
+/* Any mix of edits and undos: the window is what the remaining edits alone make of the one at the opening. */
+static void mixes(void)
+{
+    static const size_t rooms[] = {30, 200, PLANKSLING_JOURNAL_ROOM};
+    struct {
+        uint64_t n;
+        struct value value;
+    } remaining[PLANKSLING_MOST_EDITS];
+    uint64_t seed = 6, n;
+    size_t round, step, i;
+
+    about = "mixes of edits and undos";
+    for (round = 0; round < 12; round++) {
+        struct session session = new_session(BEHIND - ORIGIN, rooms[round % 3]);
+
+        for (step = 0; step < 100; step++) {
+            struct bytes alone = new_window(session.window.length, 0xEE);
+
+            seed = seed * 6364136223846793005u + 1442695040888963407u;
+            n = (seed >> 33) % (REAL + 2);
+            if ((seed >> 50) % 8 < 3 + round % 3) {
+                struct value value = integer(seed >> 40 & 1, seed >> 55);
+
+                if (n == NAME || n == EMPTY || n == MAPPED_NAME)
+                    value = string("AB", seed >> 61);
+                else if (n == EVENT || n == MAPPED_EVENT)
+                    value = event(seed);
+                value.length = value.length > 2 ? 2 : value.length;
+                if (edits(&session, n, value) == 0) {
+                    remaining[session.standing - 1].n = n;
+                    remaining[session.standing - 1].value = value;
+                }
+            } else {
+                size_t refusal = undoes(&session);
+
+                CHECK(refusal == 0 || (refusal == PLANKSLING_NOTHING_TO_UNDO && session.standing == 0));
+            }
+            for (i = 0; i < session.standing; i++)
+                CHECK(write_any(text, table, remaining[i].n, SPACE, ORIGIN, alone, remaining[i].value).refusal == 0);
+            CHECK(is_same(session.window.at, alone.at, alone.length));
+            give_back(alone.at, alone.length);
+        }
+        end_session(session);
+    }
+}
+
 /* --- two threads at once --- */
 
 /* One round of calls: good ones, and one text that is refused. Answers whether each tells what it should; makes no check, as threads share the count. */
@@ -732,7 +1186,8 @@ static int round_is_good(size_t round)
     uint64_t out[PLANKSLING_LISTED];
     uint8_t window[BEHIND - ORIGIN] = {0};
     struct told told = nothing;
-    uint64_t amount = round % 65536;
+    uint8_t journal[30];
+    uint64_t amount = round % 65536, session = 0;
     size_t place, i = round % REFUSED;
     struct bytes bad = unmarked(refused[i].marked, &place);
     int good;
@@ -745,6 +1200,12 @@ static int round_is_good(size_t round)
     good &= planksling_read(text.at, text.length, made, table.length, SHORT, SPACE, ORIGIN, window, sizeof window, &told.kind, &told.negative,
                             &told.number, &told.from, &told.to, &told.writable, &told.place) == 0;
     good &= told.number == amount && told.place == MARK;
+    good &= planksling_edit_event(text.at, text.length, made, table.length, EVENT, SPACE, ORIGIN, window, sizeof window, journal, sizeof journal, &session,
+                                  amount, &told.place) == 0;
+    good &= session == 1 && window[53] == amount / 256 && window[54] == amount % 256;
+    good &= planksling_undo(text.at, text.length, made, table.length, SPACE, ORIGIN, window, sizeof window, journal, sizeof journal, &session,
+                            &told.place) == 0;
+    good &= session == 0 && window[53] == 0 && window[54] == 0 && window[1] == amount / 256 && told.place == MARK;
     good &= planksling_plan(bad.at, bad.length, made, RECORDS * PLANKSLING_FIELDS, &told.records, &told.variables, &told.place) == refused[i].number;
     good &= told.place == place && memcmp(made, table.at, sizeof made) == 0;
     give_back(bad.at, bad.length);
@@ -803,6 +1264,13 @@ int main(void)
     writes_the_rest();
     refuses_numbers_and_windows();
     reads();
+    takes_back();
+    keeps_64_edits();
+    has_short_journals();
+    takes_any_journal();
+    ends_the_room();
+    misses_the_window();
+    mixes();
     runs_at_once();
     leaves_text_and_table();
     printf("library: %lu checks passed\n", checks);

@@ -4,6 +4,7 @@ use reference::access::{integer, Access, Value, Variable};
 use reference::description::{Detail, IntDetail, Kind};
 use reference::random::Random;
 use reference::walk::Met;
+use reference::Session;
 
 /// Sequences at the edges of UTF-8.
 #[rustfmt::skip]
@@ -176,4 +177,12 @@ pub fn any_access(random: &mut Random, n: u64) -> Access {
     let length = random.pick(&[0, 1, 8, 33]);
     let (space, first) = (random.below(256) as u64, random.pick(&[0, 1, 128, u64::MAX]));
     Access { text: Vec::new(), table: Vec::new(), n, space, first, window: filled(random, length) }
+}
+
+/// A session over the same window, with any journal and any number of edits.
+pub fn any_session(random: &mut Random, access: &Access) -> Session {
+    let Access { text, table, space, first, window, .. } = access.clone();
+    let length = random.pick(&[0, 1, 9, 40, 200]);
+    let standing = random.pick(&[0, 0, 1, 2, 63, 64, 65, u64::MAX]);
+    Session { text, table, space, first, window, journal: filled(random, length), standing }
 }

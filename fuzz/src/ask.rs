@@ -4,7 +4,7 @@ use reference::access::{Access, ReadValue, Value};
 use reference::description::Kind;
 use reference::random::Random;
 use reference::walk::Met;
-use reference::Refusal;
+use reference::{Operation, Refusal, Session};
 
 use crate::calls::{Calls, Name};
 use crate::pages::{Lent, Shelf, Side};
@@ -18,7 +18,7 @@ pub const LISTED: usize = 5;
 pub const MOST_TEXT: usize = 1 << 17;
 pub const MOST_NUMBERS: usize = 1 << 16;
 
-/// A window that is read can't be written in one read of so many; in the others it is compared afterwards.
+/// A window that is read, and a journal that is taken back from, can't be written in one call of so many; in the others it is compared afterwards.
 const FROZEN_EVERY: u64 = 16;
 
 /// A text to be written is looked for in a description of fewer bytes, for one write of so many.
@@ -53,6 +53,7 @@ pub struct Asker<'a> {
     /// What is listed.
     out: Shelf,
     window: Shelf,
+    journal: Shelf,
     string: Shelf,
     /// Single numbers that are handed out, each in a page of its own.
     numbers: Vec<Shelf>,
@@ -107,6 +108,7 @@ impl<'a> Asker<'a> {
             room: Shelf::new(8 * MOST_NUMBERS),
             out: Shelf::new(8 * MOST_NUMBERS),
             window: Shelf::new(MOST_TEXT),
+            journal: Shelf::new(MOST_TEXT),
             string: Shelf::new(MOST_TEXT),
             numbers: (0..7).map(|_| Shelf::new(8)).collect(),
             marks: Vec::new(),
@@ -131,9 +133,9 @@ impl<'a> Asker<'a> {
 
     /// Ends it: nothing else in any page was written.
     pub fn end(&mut self) -> Verdict {
-        let shelves =
-            [&mut self.text, &mut self.table, &mut self.room, &mut self.out, &mut self.window, &mut self.string];
-        let clean = shelves.into_iter().chain(&mut self.numbers).all(Shelf::is_all_clean);
+        let Asker { text, table, room, out, window, journal, string, numbers, .. } = self;
+        let shelves = [text, table, room, out, window, journal, string];
+        let clean = shelves.into_iter().chain(numbers).all(Shelf::is_all_clean);
         let what = || "some byte beside a buffer of this case was written".to_string();
         if clean {
             Ok(())
@@ -224,8 +226,9 @@ impl<'a> Asker<'a> {
                 return self.differ(name, &more(), what);
             }
         }
-        let shelves = [&self.text, &self.table, &self.room, &self.out, &self.window, &self.string];
-        if !shelves.into_iter().chain(&self.numbers).all(Shelf::is_clean) {
+        let Asker { text, table, room, out, window, journal, string, numbers, .. } = &*self;
+        let shelves = [text, table, room, out, window, journal, string];
+        if !shelves.into_iter().chain(numbers).all(Shelf::is_clean) {
             return self.differ(name, &more(), "a byte beside a buffer was written".to_string());
         }
         self.tally.add(name, if name == Name::ListChecked { 0 } else { told });
@@ -469,5 +472,115 @@ impl<'a> Asker<'a> {
             }
         };
         told
+    }
+
+    // ── sessions ──
+
+    /// Makes one call of a session; the session afterwards, or the refusal. The end of the content is told where the call is to rely on it.
+    pub fn perform(
+        &mut self,
+        end: Option<usize>,
+        before: &Session,
+        operation: &Operation,
+        sign: u64,
+        wanted: &Result<Session, Refusal>,
+    ) -> Verdict {
+        let name = name_of(operation, end.is_some());
+        let more = || {
+            let Session { space, first, window, journal, standing, .. } = before;
+            format!("{operation:?}, space {space}, first {first}, sign {sign}, session {standing}\n  window {window:?}\n  journal {journal:?}")
+        };
+        self.tell(name, &more);
+        let lent = self.window.lend(&before.window, self.side);
+        let window = self.or_null(lent);
+        let lent = self.journal.lend(&before.journal, self.side);
+        if *operation == Operation::Undo && self.made.is_multiple_of(FROZEN_EVERY) {
+            self.journal.freeze();
+        }
+        let journal = self.or_null(lent);
+        let string = match operation {
+            Operation::Edit { value: Value::Text(bytes), .. } => self.lend_string(bytes),
+            _ => Lent { at: std::ptr::null_mut(), length: 0 },
+        };
+        let [_, place] = self.hand();
+        // the session's value is handed in, and left where the call is refused
+        self.marks[0] = before.standing;
+        let session = self.numbers[0].lend(&[before.standing], self.side).at;
+        let told = self.make_call(end, before, operation, sign, (window, journal, string), (session, place.cast()));
+        self.journal.thaw();
+        let standing = wanted.as_ref().ok().map(|after| after.standing);
+        let place = end.map_or_else(|| place_by(wanted), |_| None);
+        self.judge(name, &more, told, told_by(wanted), &[standing, place])?;
+        let after = wanted.as_ref().unwrap_or(before);
+        if !self.window.holds(&after.window) {
+            let what = format!("the window is {:?}, and not {:?}", self.window.content::<u8>(), after.window);
+            return self.differ(name, &more(), what);
+        }
+        if !self.journal.holds(&after.journal) {
+            let what = format!("the journal is {:?}, and not {:?}", self.journal.content::<u8>(), after.journal);
+            return self.differ(name, &more(), what);
+        }
+        Ok(())
+    }
+
+    fn make_call(
+        &self,
+        end: Option<usize>,
+        Session { space, first, .. }: &Session,
+        operation: &Operation,
+        sign: u64,
+        (window, journal, string): (Lent<u8>, Lent<u8>, Lent<u8>),
+        (session, place): (*mut u64, *mut usize),
+    ) -> usize {
+        let Lent { at: text, length } = self.lent_text;
+        let Lent { at: table, length: numbers } = self.lent_table;
+        let (space, first, held, bytes) = (*space, *first, window.at, window.length);
+        let (kept, room, from, count) = (journal.at, journal.length, string.at, string.length);
+        let calls = self.calls;
+        // Safety: as in `make_write`.
+        #[rustfmt::skip]
+        let told = unsafe {
+            match (operation, end) {
+                (Operation::Undo, None) => (calls.undo)(
+                    text, length, table, numbers, space, first, held, bytes, kept, room, session, place,
+                ),
+                (Operation::Undo, Some(end)) => (calls.undo_checked)(
+                    text, length, end, table, numbers, space, first, held, bytes, kept, room, session,
+                ),
+                (Operation::Edit { n, value: Value::Integer { magnitude, .. } }, None) => (calls.edit_integer)(
+                    text, length, table, numbers, *n, space, first, held, bytes, kept, room, session, sign, *magnitude, place,
+                ),
+                (Operation::Edit { n, value: Value::Event(id) }, None) => (calls.edit_event)(
+                    text, length, table, numbers, *n, space, first, held, bytes, kept, room, session, *id, place,
+                ),
+                (Operation::Edit { n, value: Value::Text(_) }, None) => (calls.edit_text)(
+                    text, length, table, numbers, *n, space, first, held, bytes, kept, room, session, from, count, place,
+                ),
+                (Operation::Edit { n, value: Value::Integer { magnitude, .. } }, Some(end)) => (calls.edit_integer_checked)(
+                    text, length, end, table, numbers, *n, space, first, held, bytes, kept, room, session, sign, *magnitude,
+                ),
+                (Operation::Edit { n, value: Value::Event(id) }, Some(end)) => (calls.edit_event_checked)(
+                    text, length, end, table, numbers, *n, space, first, held, bytes, kept, room, session, *id,
+                ),
+                (Operation::Edit { n, value: Value::Text(_) }, Some(end)) => (calls.edit_text_checked)(
+                    text, length, end, table, numbers, *n, space, first, held, bytes, kept, room, session, from, count,
+                ),
+            }
+        };
+        told
+    }
+}
+
+/// The call for an operation of a session.
+fn name_of(operation: &Operation, is_checked: bool) -> Name {
+    match (operation, is_checked) {
+        (Operation::Undo, false) => Name::Undo,
+        (Operation::Undo, true) => Name::UndoChecked,
+        (Operation::Edit { value: Value::Integer { .. }, .. }, false) => Name::EditInteger,
+        (Operation::Edit { value: Value::Event(_), .. }, false) => Name::EditEvent,
+        (Operation::Edit { value: Value::Text(_), .. }, false) => Name::EditText,
+        (Operation::Edit { value: Value::Integer { .. }, .. }, true) => Name::EditIntegerChecked,
+        (Operation::Edit { value: Value::Event(_), .. }, true) => Name::EditEventChecked,
+        (Operation::Edit { value: Value::Text(_), .. }, true) => Name::EditTextChecked,
     }
 }

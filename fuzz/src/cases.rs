@@ -5,9 +5,10 @@ use reference::answer::{answer, lent_table, Answer, Case};
 use reference::cases::{Sort, Stream};
 use reference::random::Random;
 use reference::refusal::unplaced;
-use reference::Refusal;
+use reference::session::Known;
+use reference::{Operation, Refusal};
 
-use crate::accesses::{any_access, any_value, some_access, some_sign, some_value};
+use crate::accesses::{any_access, any_session, any_value, some_access, some_sign, some_value};
 use crate::ask::{Asker, At, Difference, Verdict, FIELDS, LISTED};
 use crate::oracle::{Description, Variables};
 use crate::pages::Side;
@@ -40,12 +41,14 @@ pub struct Cases {
     plans: Stream,
     tables: Stream,
     accesses: Stream,
+    sessions: Stream,
 }
 
 impl Cases {
     pub fn new(seed: u64) -> Cases {
         let of = |sort| Stream::new(seed, sort, false);
-        Cases { seed, plans: of(Sort::Plan), tables: of(Sort::Locate), accesses: of(Sort::Access) }
+        let (plans, tables) = (of(Sort::Plan), of(Sort::Locate));
+        Cases { seed, plans, tables, accesses: of(Sort::Access), sessions: of(Sort::Session) }
     }
 
     /// Makes one case. Where `tells` holds every call is printed before it is made.
@@ -64,6 +67,7 @@ impl Cases {
                     of_table(asker, random, &table)?;
                 }
             }
+            17 => self.of_sessions(asker, random)?,
             _ => {
                 let table = table(random);
                 of_table(asker, random, &table)?;
@@ -90,6 +94,29 @@ impl Cases {
             Case::WriteInteger { access, .. } | Case::Read { access } => of_text(asker, random, &access.text),
             _ => Ok(()),
         }
+    }
+
+    /// A session of the streams: each operation on what the one before has left, where text and table belong together by both calls.
+    fn of_sessions(&self, asker: &mut Asker, random: &mut Random) -> Verdict {
+        let Case::Session { mut session, operations } = self.sessions.case(random.draw()) else { return Ok(()) };
+        asker.hold_text(&session.text);
+        asker.hold_table(&session.table);
+        let known = Known::of(&session.text, &session.table);
+        let end = known.is_ok().then(|| session.text.iter().position(|byte| *byte == 0)).flatten();
+        for operation in &operations {
+            let mut after = session.clone();
+            let wanted = after.perform(&known, operation).map(|()| after);
+            let sign = match operation {
+                Operation::Edit { value, .. } => some_sign(random, value),
+                Operation::Undo => 0,
+            };
+            asker.perform(None, &session, operation, sign, &wanted)?;
+            if end.is_some() {
+                asker.perform(end, &session, operation, sign, &wanted)?;
+            }
+            session = wanted.unwrap_or(session);
+        }
+        Ok(())
     }
 }
 
@@ -233,7 +260,16 @@ fn refused(asker: &mut Asker, random: &mut Random, refusal: Refusal) -> Verdict 
         let value = any_value(random, 8);
         asker.write(at, &value, random.below(2) as u64, &Err(refusal))?;
     }
-    asker.read(at, &Err(refusal))
+    asker.read(at, &Err(refusal))?;
+    refused_session(asker, random, &access, refusal)
+}
+
+/// An edit and an undo that are refused for their text or table, whatever journal comes with it.
+fn refused_session(asker: &mut Asker, random: &mut Random, access: &Access, refusal: Refusal) -> Verdict {
+    let session = any_session(random, access);
+    let edit = Operation::Edit { n: access.n, value: any_value(random, 8) };
+    asker.perform(None, &session, &edit, random.below(2) as u64, &Err(refusal))?;
+    asker.perform(None, &session, &Operation::Undo, 0, &Err(refusal))
 }
 
 /// Rooms to plan into: exactly large enough, larger, and too small by one or by more.
@@ -286,7 +322,8 @@ fn with_other_table(asker: &mut Asker, random: &mut Random, description: &Descri
     let at = At { end: None, access: &access };
     let value = any_value(random, 8);
     asker.write(at, &value, 0, &Err(unplaced(20)))?;
-    asker.read(at, &Err(unplaced(20)))
+    asker.read(at, &Err(unplaced(20)))?;
+    refused_session(asker, random, &access, unplaced(20))
 }
 
 // ── settings of a text with its own table, both of which are lent already ──

@@ -5,8 +5,8 @@ use crate::pages::Side;
 
 /// The refusals that there are, in the order in which README.md has them.
 #[rustfmt::skip]
-pub const REFUSALS: [u8; 29] = [
-    1, 2, 3, 4, 5, 6, 7, 81, 82, 83, 84, 85, 86, 87, 88, 9, 10, 11, 12, 13, 20, 21, 22, 23, 24, 25, 26, 27, 28,
+pub const REFUSALS: [u8; 32] = [
+    1, 2, 3, 4, 5, 6, 7, 81, 82, 83, 84, 85, 86, 87, 88, 9, 10, 11, 12, 13, 20, 21, 22, 23, 24, 25, 26, 27, 28, 30, 31, 35,
 ];
 
 /// One more than the greatest of them.

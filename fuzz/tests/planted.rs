@@ -147,6 +147,52 @@ mod wrong {
         told
     }
 
+    pub unsafe extern "C" fn edit_writes_behind_the_journal(
+        text: *const u8, length: usize, table: *const i64, numbers: usize, n: u64, space: u64, first: u64, window: *mut u8, bytes: usize,
+        journal: *mut u8, room: usize, session: *mut u64, id: u64, place: *mut usize,
+    ) -> usize {
+        if room > 0 {
+            std::ptr::write_volatile(journal.add(room), !*journal.add(room - 1));
+        }
+        (LIBRARY.edit_event)(text, length, table, numbers, n, space, first, window, bytes, journal, room, session, id, place)
+    }
+
+    pub unsafe extern "C" fn edit_keeps_another_byte(
+        text: *const u8, length: usize, end: usize, table: *const i64, numbers: usize, n: u64, space: u64, first: u64, window: *mut u8,
+        bytes: usize, journal: *mut u8, room: usize, session: *mut u64, negative: u64, magnitude: u64,
+    ) -> usize {
+        let is_first = *session == 0;
+        let told = (LIBRARY.edit_integer_checked)(
+            text, length, end, table, numbers, n, space, first, window, bytes, journal, room, session, negative, magnitude,
+        );
+        if told == 0 && is_first {
+            *journal.add(8) = !*journal.add(8);
+        }
+        told
+    }
+
+    pub unsafe extern "C" fn undo_clears_the_journal(
+        text: *const u8, length: usize, end: usize, table: *const i64, numbers: usize, space: u64, first: u64, window: *mut u8, bytes: usize,
+        journal: *const u8, room: usize, session: *mut u64,
+    ) -> usize {
+        let told = (LIBRARY.undo_checked)(text, length, end, table, numbers, space, first, window, bytes, journal, room, session);
+        if told == 0 {
+            std::ptr::write_volatile(journal.cast_mut().add(7), 0);
+        }
+        told
+    }
+
+    pub unsafe extern "C" fn undo_counts_when_refused(
+        text: *const u8, length: usize, table: *const i64, numbers: usize, space: u64, first: u64, window: *mut u8, bytes: usize,
+        journal: *const u8, room: usize, session: *mut u64, place: *mut usize,
+    ) -> usize {
+        let told = (LIBRARY.undo)(text, length, table, numbers, space, first, window, bytes, journal, room, session, place);
+        if told == 35 {
+            *session -= 1;
+        }
+        told
+    }
+
     pub unsafe extern "C" fn check_plan_never_returns(_table: *const i64, _numbers: usize) -> usize {
         loop {
             std::thread::sleep(std::time::Duration::from_secs(1));
@@ -183,6 +229,10 @@ fn planted(name: &str) -> Calls {
         "write_integer writes when it refuses" => {
             Calls { write_integer_checked: wrong::integer_writes_when_refused, ..calls }
         }
+        "edit_event writes behind the journal" => Calls { edit_event: wrong::edit_writes_behind_the_journal, ..calls },
+        "edit_integer keeps another byte" => Calls { edit_integer_checked: wrong::edit_keeps_another_byte, ..calls },
+        "undo clears the journal" => Calls { undo_checked: wrong::undo_clears_the_journal, ..calls },
+        "undo counts when it refuses" => Calls { undo: wrong::undo_counts_when_refused, ..calls },
         "check_plan never returns" => Calls { check_plan: wrong::check_plan_never_returns, ..calls },
         "list counts when it refuses" => Calls { list: wrong::list_counts_when_refused, ..calls },
         _ => panic!("nothing is planted under this name: {name}"),
@@ -250,6 +300,7 @@ fn a_byte_too_far_that_is_written_ends_the_process() {
     is_ended_by_signal("plan writes behind the table", "end");
     is_ended_by_signal("plan writes before the table", "begin");
     is_ended_by_signal("locate writes a number of 16 bytes", "end");
+    is_ended_by_signal("edit_event writes behind the journal", "end");
 }
 
 #[test]
@@ -259,6 +310,7 @@ fn a_byte_too_far_on_the_other_side_is_told() {
     is_told("plan writes behind the table", "begin");
     is_told("plan writes before the table", "end");
     is_told("locate writes a number of 16 bytes", "begin");
+    is_told("edit_event writes behind the journal", "begin");
 }
 
 #[test]
@@ -272,6 +324,7 @@ fn what_a_refused_call_writes_is_told() {
     is_told("locate writes a number when it refuses", "both");
     is_told("write_integer writes when it refuses", "both");
     is_told("list counts when it refuses", "both");
+    is_told("undo counts when it refuses", "both");
 }
 
 #[test]
@@ -279,6 +332,14 @@ fn a_wrong_answer_is_told() {
     is_told("check leaves the place out", "both");
     is_told("plan tells another place", "both");
     is_told("plan writes behind the records", "both");
+    is_told("edit_integer keeps another byte", "both");
+}
+
+/// In one call of 16 the journal can't be written at all, so either ends it.
+#[test]
+fn a_journal_that_undo_writes_is_found() {
+    let ended = ended("undo clears the journal", "both", CASES);
+    assert!(matches!(ended, Ended::Status(TOLD) | Ended::Signal { signal: SEGMENTATION, .. }), "{ended:?}");
 }
 
 #[test]

@@ -195,4 +195,142 @@ extern "C" {
         to: *mut usize,
         writable: *mut u64,
     ) -> usize;
+
+    // ── edits that can be taken back ──
+
+    pub(crate) fn planksling_edit_integer(
+        text: *const u8,
+        text_length: usize,
+        table: *const i64,
+        table_length: usize,
+        n: u64,
+        space: u64,
+        first: u64,
+        window: *mut u8,
+        window_length: usize,
+        journal: *mut u8,
+        journal_length: usize,
+        session: *mut u64,
+        negative: u64,
+        magnitude: u64,
+        place: *mut usize,
+    ) -> usize;
+
+    pub(crate) fn planksling_edit_event(
+        text: *const u8,
+        text_length: usize,
+        table: *const i64,
+        table_length: usize,
+        n: u64,
+        space: u64,
+        first: u64,
+        window: *mut u8,
+        window_length: usize,
+        journal: *mut u8,
+        journal_length: usize,
+        session: *mut u64,
+        id: u64,
+        place: *mut usize,
+    ) -> usize;
+
+    pub(crate) fn planksling_edit_text(
+        text: *const u8,
+        text_length: usize,
+        table: *const i64,
+        table_length: usize,
+        n: u64,
+        space: u64,
+        first: u64,
+        window: *mut u8,
+        window_length: usize,
+        journal: *mut u8,
+        journal_length: usize,
+        session: *mut u64,
+        string: *const u8,
+        string_length: usize,
+        place: *mut usize,
+    ) -> usize;
+
+    pub(crate) fn planksling_undo(
+        text: *const u8,
+        text_length: usize,
+        table: *const i64,
+        table_length: usize,
+        space: u64,
+        first: u64,
+        window: *mut u8,
+        window_length: usize,
+        journal: *const u8,
+        journal_length: usize,
+        session: *mut u64,
+        place: *mut usize,
+    ) -> usize;
+
+    pub(crate) fn planksling_edit_integer_checked(
+        text: *const u8,
+        text_length: usize,
+        end: usize,
+        table: *const i64,
+        table_length: usize,
+        n: u64,
+        space: u64,
+        first: u64,
+        window: *mut u8,
+        window_length: usize,
+        journal: *mut u8,
+        journal_length: usize,
+        session: *mut u64,
+        negative: u64,
+        magnitude: u64,
+    ) -> usize;
+
+    pub(crate) fn planksling_edit_event_checked(
+        text: *const u8,
+        text_length: usize,
+        end: usize,
+        table: *const i64,
+        table_length: usize,
+        n: u64,
+        space: u64,
+        first: u64,
+        window: *mut u8,
+        window_length: usize,
+        journal: *mut u8,
+        journal_length: usize,
+        session: *mut u64,
+        id: u64,
+    ) -> usize;
+
+    pub(crate) fn planksling_edit_text_checked(
+        text: *const u8,
+        text_length: usize,
+        end: usize,
+        table: *const i64,
+        table_length: usize,
+        n: u64,
+        space: u64,
+        first: u64,
+        window: *mut u8,
+        window_length: usize,
+        journal: *mut u8,
+        journal_length: usize,
+        session: *mut u64,
+        string: *const u8,
+        string_length: usize,
+    ) -> usize;
+
+    pub(crate) fn planksling_undo_checked(
+        text: *const u8,
+        text_length: usize,
+        end: usize,
+        table: *const i64,
+        table_length: usize,
+        space: u64,
+        first: u64,
+        window: *mut u8,
+        window_length: usize,
+        journal: *const u8,
+        journal_length: usize,
+        session: *mut u64,
+    ) -> usize;
 }

@@ -144,6 +144,73 @@ pub(crate) fn read<'w>(
     Ok(out.reading(bytes))
 }
 
+/// Writes a value to variable n of any text and table, so that it can be taken back.
+pub(crate) fn edit(
+    text: &[u8],
+    table: &[i64],
+    n: u64,
+    Window { space, first, bytes }: Window<&mut [u8]>,
+    journal: &mut [u8],
+    session: &mut u64,
+    value: &Value<'_>,
+) -> Result<(), Refusal> {
+    let (content, length, rows, numbers) = (text.as_ptr(), text.len(), table.as_ptr(), table.len());
+    let (held, size, kept, room) = (bytes.as_mut_ptr(), bytes.len(), journal.as_mut_ptr(), journal.len());
+    let mut place = 0;
+    // SAFETY: slices and references of this function.
+    let told = unsafe {
+        match value {
+            Value::Integer(integer) => {
+                let (negative, magnitude) = (integer.is_negative().into(), integer.magnitude());
+                planksling_edit_integer(
+                    content, length, rows, numbers, n, space, first, held, size, kept, room, session, negative,
+                    magnitude, &mut place,
+                )
+            }
+            Value::Event(EventId(id)) => planksling_edit_event(
+                content, length, rows, numbers, n, space, first, held, size, kept, room, session, *id, &mut place,
+            ),
+            Value::Text(string) => {
+                let (string, bytes) = (string.as_ptr(), string.len());
+                planksling_edit_text(
+                    content, length, rows, numbers, n, space, first, held, size, kept, room, session, string, bytes,
+                    &mut place,
+                )
+            }
+        }
+    };
+    Refusal::told(told, place)
+}
+
+/// Takes back the latest edit over any text and table.
+pub(crate) fn undo(
+    text: &[u8],
+    table: &[i64],
+    Window { space, first, bytes }: Window<&mut [u8]>,
+    journal: &[u8],
+    session: &mut u64,
+) -> Result<(), Refusal> {
+    let mut place = 0;
+    // SAFETY: slices and references of this function.
+    let told = unsafe {
+        planksling_undo(
+            text.as_ptr(),
+            text.len(),
+            table.as_ptr(),
+            table.len(),
+            space,
+            first,
+            bytes.as_mut_ptr(),
+            bytes.len(),
+            journal.as_ptr(),
+            journal.len(),
+            session,
+            &mut place,
+        )
+    };
+    Refusal::told(told, place)
+}
+
 /// What a read hands out.
 #[derive(Default)]
 struct Out {
@@ -345,5 +412,70 @@ impl Planned {
         };
         Refusal::told(told, 0)?;
         Ok(out.reading(bytes))
+    }
+
+    /// Writes a value to variable n, so that it can be taken back.
+    pub(crate) fn edit(
+        &self,
+        n: u64,
+        Window { space, first, bytes }: Window<&mut [u8]>,
+        journal: &mut [u8],
+        session: &mut u64,
+        value: &Value<'_>,
+    ) -> Result<(), Refusal> {
+        let (content, length, end) = (self.text.as_ptr(), self.text.len(), self.end());
+        let (rows, numbers) = (self.table.numbers().as_ptr(), self.table.numbers().len());
+        let (held, size, kept, room) = (bytes.as_mut_ptr(), bytes.len(), journal.as_mut_ptr(), journal.len());
+        // SAFETY: slices and a reference of this function; the table is the one planned from the text, whose first zero is at `end`.
+        let told = unsafe {
+            match value {
+                Value::Integer(integer) => {
+                    let (negative, magnitude) = (integer.is_negative().into(), integer.magnitude());
+                    planksling_edit_integer_checked(
+                        content, length, end, rows, numbers, n, space, first, held, size, kept, room, session,
+                        negative, magnitude,
+                    )
+                }
+                Value::Event(EventId(id)) => planksling_edit_event_checked(
+                    content, length, end, rows, numbers, n, space, first, held, size, kept, room, session, *id,
+                ),
+                Value::Text(string) => {
+                    let (string, bytes) = (string.as_ptr(), string.len());
+                    planksling_edit_text_checked(
+                        content, length, end, rows, numbers, n, space, first, held, size, kept, room, session, string,
+                        bytes,
+                    )
+                }
+            }
+        };
+        Refusal::told(told, 0)
+    }
+
+    /// Takes the latest edit back.
+    pub(crate) fn undo(
+        &self,
+        Window { space, first, bytes }: Window<&mut [u8]>,
+        journal: &[u8],
+        session: &mut u64,
+    ) -> Result<(), Refusal> {
+        let table = self.table.numbers();
+        // SAFETY: slices and a reference of this function; the table is the one planned from the text, whose first zero is at `end`.
+        let told = unsafe {
+            planksling_undo_checked(
+                self.text.as_ptr(),
+                self.text.len(),
+                self.end(),
+                table.as_ptr(),
+                table.len(),
+                space,
+                first,
+                bytes.as_mut_ptr(),
+                bytes.len(),
+                journal.as_ptr(),
+                journal.len(),
+                session,
+            )
+        };
+        Refusal::told(told, 0)
     }
 }

@@ -167,6 +167,11 @@ impl Description {
         self.planned.read(n, window.view())
     }
 
+    /// The text and its table, for the calls.
+    pub(crate) fn planned(&self) -> &Planned {
+        &self.planned
+    }
+
     /// Plans a text that has no closing zero of its own.
     fn close(mut text: Vec<u8>) -> Result<Description, Refusal> {
         text.push(0);

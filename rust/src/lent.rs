@@ -1,7 +1,7 @@
 //! The calls on memory that the caller lends, for programs that keep texts and tables by themselves, on the stack for instance.
 //!
-//! Each takes any text and any table and asks nothing of its caller. Writing and reading plan the text again at each call to be sure of the table;
-//! a [`Description`](crate::Description) does that once.
+//! Each takes any text and any table and asks nothing of its caller. Writing, reading, editing and taking back plan the text again at each call to
+//! be sure of the table; a [`Description`](crate::Description) does that once.
 //!
 //! ```
 //! use planksling::{lent, Window, FIELDS};
@@ -15,6 +15,12 @@
 //! assert_eq!(lent::locate(table, 4)?.address, 147);
 //! let mut window = Window::new(253, 147, [0; 2]);
 //! lent::write(text, table, 4, &mut window, 300)?;
+//! assert_eq!(lent::read(text, table, 4, &window)?.value, 300.into());
+//!
+//! // edits that can be taken back: a session is the number of those that stand
+//! let (mut journal, mut session) = ([0; 100], 0);
+//! lent::edit(text, table, 4, &mut window, &mut journal, &mut session, 301)?;
+//! lent::undo(text, table, &mut window, &journal, &mut session)?;
 //! assert_eq!(lent::read(text, table, 4, &window)?.value, 300.into());
 //! # Ok::<(), planksling::Refusal>(())
 //! ```
@@ -106,4 +112,34 @@ pub fn read<'w, B: AsRef<[u8]>>(
     window: &'w Window<B>,
 ) -> Result<Reading<'w>, Refusal> {
     calls::read(text, table, n, window.view())
+}
+
+/// Writes a value to variable n so that it can be taken back, as [`Session::edit`](crate::Session::edit) does. The table is exactly the records planned
+/// from the text; `session` is how many edits stand, 0 at first, and an accepted edit adds one.
+///
+/// Before its refusals come those of the text, and [`NotAPlan`](crate::Cause::NotAPlan) for another table.
+pub fn edit<'v, B: AsMut<[u8]>>(
+    text: &[u8],
+    table: &[i64],
+    n: u64,
+    window: &mut Window<B>,
+    journal: &mut [u8],
+    session: &mut u64,
+    value: impl Into<Value<'v>>,
+) -> Result<(), Refusal> {
+    calls::edit(text, table, n, window.view_mut(), journal, session, &value.into())
+}
+
+/// Takes the latest edit back, as [`Session::undo`](crate::Session::undo) does. What it takes back is right where text, table, window and journal are those
+/// of the edits, `session` is what the last call left, and nothing else has written to these; any others may be handed in.
+///
+/// Before its refusals come those of the text, and [`NotAPlan`](crate::Cause::NotAPlan) for another table.
+pub fn undo<B: AsMut<[u8]>>(
+    text: &[u8],
+    table: &[i64],
+    window: &mut Window<B>,
+    journal: &[u8],
+    session: &mut u64,
+) -> Result<(), Refusal> {
+    calls::undo(text, table, window.view_mut(), journal, session)
 }

@@ -17,3 +17,9 @@ pub const MOST_VARIABLES: u64 = 1_000_000;
 
 /// The numbers that tell one variable in a list: record, space, address, size, kind.
 pub const LISTED: usize = 5;
+
+/// So many edits of a session stand at most.
+pub const MOST_EDITS: u64 = 64;
+
+/// So many bytes of a journal are used at most; what is behind them is never looked at.
+pub const JOURNAL_ROOM: usize = 65_536;

@@ -5,8 +5,8 @@ use std::fmt;
 
 /// Why a call was refused. Each cause has the number that all interfaces of the library give.
 ///
-/// The causes 1 to 12 and 81 to 88 are about a description and for its maker; the others are about the tables, numbers, values and windows that a
-/// caller hands in. They are ordered by their numbers. Later versions may add causes.
+/// The causes 1 to 12 and 81 to 88 are about a description and for its maker; the others are about the tables, numbers, values, windows and
+/// journals that a caller hands in. They are ordered by their numbers. Later versions may add causes.
 ///
 /// ```
 /// use planksling::Cause;
@@ -41,7 +41,7 @@ pub enum Cause {
     AddressOutOfRange = 11,
     /// 12: more than 1,000,000 variables. Place: the `<` of `cdi`.
     TooManyVariables = 12,
-    /// 13: the lent table has no room for the records. Place: 0, as for all causes that follow here up to 28.
+    /// 13: the lent table has no room for the records. Place: 0, as for all causes that follow here up to 35.
     TableTooShort = 13,
     /// 20: the table isn't a plan; when writing and reading, not exactly the one planned from this text.
     NotAPlan = 20,
@@ -61,6 +61,12 @@ pub enum Cause {
     Withheld = 27,
     /// 28: the string's bytes are no text: no zero closes them, or what stands before it isn't UTF-8.
     UnreadableText = 28,
+    /// 30: 64 edits stand, or the journal has no room for the entry of one more.
+    JournalFull = 30,
+    /// 31: no edit stands that could be taken back.
+    NothingToUndo = 31,
+    /// 35: the latest entry doesn't lie in the journal, or its number and size aren't those of a variable wholly inside the window.
+    BadEntry = 35,
     /// 81: an element that its parent can't hold, or a root other than `cdi`. Place: its `<`.
     UnknownElement = 81,
     /// 82: an element behind one that must follow it. Place: its `<`.
@@ -111,6 +117,9 @@ impl Cause {
         Cause::OutsideWindow,
         Cause::Withheld,
         Cause::UnreadableText,
+        Cause::JournalFull,
+        Cause::NothingToUndo,
+        Cause::BadEntry,
     ];
 
     /// The cause's number.
@@ -152,6 +161,11 @@ impl Cause {
             Cause::OutsideWindow => "wrong space, or not wholly inside the window",
             Cause::Withheld => "a float; when writing, also an eventid with a map",
             Cause::UnreadableText => "no zero in the text, or not UTF-8 before it",
+            Cause::JournalFull => "64 edits stand, or the journal lacks room for one more",
+            Cause::NothingToUndo => "no edit stands",
+            Cause::BadEntry => {
+                "the latest entry doesn't lie in the journal, or isn't that of a variable inside the window"
+            }
         }
     }
 }
@@ -179,7 +193,7 @@ impl TryFrom<usize> for Cause {
 
 /// A refusal: its cause, and the place in the text, counted in bytes from 0.
 ///
-/// A refused call has changed no table and no window that was lent to it.
+/// A refused call has changed no table, no window and no journal that was lent to it.
 ///
 /// ```
 /// use planksling::{Cause, Description};

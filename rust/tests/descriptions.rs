@@ -3,9 +3,9 @@
 mod texts;
 
 use planksling::{
-    lent, Cause, Counts, Description, Integer, Reading, Refusal, Table, Value, Variable, Variables, Window,
+    lent, Cause, Counts, Description, Integer, Reading, Refusal, Session, Table, Value, Variable, Variables, Window,
 };
-use planksling::{EventId, Kind, FIELDS, MOST_NUMBERS, MOST_RECORDS, TEXT_LIMIT};
+use planksling::{Entry, EventId, Kind, FIELDS, MOST_NUMBERS, MOST_RECORDS, TEXT_LIMIT};
 use std::collections::HashSet;
 use texts::{closed, planned, refusal, segment, text, Numbers, WORKED};
 
@@ -263,6 +263,7 @@ fn send_and_sync() {
     both::<(Variable, Kind, Counts)>();
     both::<(Value<'_>, Reading<'_>, Integer, EventId)>();
     both::<Window<Vec<u8>>>();
+    both::<(Session<'_>, Entry<'_>)>();
     both::<(Refusal, Cause)>();
     // and a refusal can be handed on as any error
     let error: Box<dyn std::error::Error + Send + Sync> = refusal(Cause::NoEnd, 0).into();

@@ -117,7 +117,7 @@ fn causes() {
 #[test]
 fn causes_by_number() {
     let known: Vec<usize> = (0..=300).filter(|&number| Cause::try_from(number).is_ok()).collect();
-    let expected: Vec<usize> = (1..=7).chain(9..=13).chain(20..=28).chain(81..=88).collect();
+    let expected: Vec<usize> = (1..=7).chain(9..=13).chain(20..=28).chain([30, 31, 35]).chain(81..=88).collect();
     assert_eq!(known, expected);
     for cause in Cause::ALL {
         assert_eq!(Cause::try_from(cause.number()), Ok(*cause));

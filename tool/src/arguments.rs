@@ -19,15 +19,17 @@ pub enum Call {
     Show { file: OsString, number: u64 },
     Read { file: OsString, number: u64, window: Memory },
     Write { file: OsString, number: u64, value: String, window: Memory },
+    Edit { file: OsString, number: u64, value: String, window: Memory, journal: PathBuf },
+    Undo { file: OsString, window: PathBuf, journal: PathBuf },
     Help(Option<Command>),
     Version,
 }
 
-/// A window that is kept in a file. Without a space it is of the variable's own.
+/// A window that is kept in a file. Without a space it is of the variable's own, without an address it begins at 0.
 pub struct Memory {
     pub file: PathBuf,
     pub space: Option<u64>,
-    pub first: u64,
+    pub first: Option<u64>,
 }
 
 /// The words of a call, sorted.
@@ -36,6 +38,7 @@ struct Words<'a> {
     /// The command and what it is about.
     plain: Vec<&'a OsStr>,
     window: Option<&'a OsStr>,
+    journal: Option<&'a OsStr>,
     space: Option<&'a OsStr>,
     first: Option<&'a OsStr>,
     json: bool,
@@ -102,6 +105,7 @@ impl<'a> Words<'a> {
         let name = &bytes[..end];
         let held = match name {
             b"--window" => &mut self.window,
+            b"--journal" => &mut self.journal,
             b"--space" => &mut self.space,
             b"--first" => &mut self.first,
             _ => return unknown(word),
@@ -138,8 +142,20 @@ impl<'a> Words<'a> {
             Command::Write => Call::Write {
                 file: file(),
                 number: number(command, words[1])?,
-                value: value(words[2])?,
+                value: value(command, words[2])?,
                 window: self.memory(command)?,
+            },
+            Command::Edit => Call::Edit {
+                file: file(),
+                number: number(command, words[1])?,
+                value: value(command, words[2])?,
+                window: self.memory(command)?,
+                journal: named(command, "--journal", self.journal)?,
+            },
+            Command::Undo => Call::Undo {
+                file: file(),
+                window: named(command, "--window", self.window)?,
+                journal: named(command, "--journal", self.journal)?,
             },
             Command::Help => Call::Help(command_of(words.first())?),
         })
@@ -154,27 +170,37 @@ impl<'a> Words<'a> {
         // help takes a command or none
         let most = wanted.len().max(1);
         if let Some(word) = words.get(most) {
-            let quotes = if command == Command::Write { "; a text with blanks is put in quotes" } else { "" };
+            let quotes = if wanted.contains(&"VALUE") { "; a text with blanks is put in quotes" } else { "" };
             return wrong(Some(command), format!("`{}` is a word too many{quotes}", told(word)));
         }
-        let options = [("--window", self.window), ("--space", self.space), ("--first", self.first)];
-        match options.iter().find(|(_, value)| value.is_some()) {
-            Some((name, _)) if !command.has_window() => wrong(Some(command), format!("{name} is for read and write")),
-            _ => Ok(()),
+        let options = [
+            ("--window", self.window, command.has_window(), "read, write, edit and undo"),
+            ("--journal", self.journal, command.has_journal(), "edit and undo"),
+            ("--space", self.space, command.has_address(), "read, write and edit"),
+            ("--first", self.first, command.has_address(), "read, write and edit"),
+        ];
+        match options.iter().find(|(_, value, takes, _)| value.is_some() && !takes) {
+            Some((name, _, _, those)) => wrong(Some(command), format!("{name} is for {those}")),
+            None => Ok(()),
         }
     }
 
     fn memory(&self, command: Command) -> Result<Memory, Ending> {
-        let file = match self.window {
-            None => return wrong(Some(command), format!("{} needs --window FILE", command.name())),
-            Some(file) if file == "-" || file.is_empty() => {
-                return wrong(Some(command), "--window needs the name of a file".to_string())
-            }
-            Some(file) => PathBuf::from(file),
-        };
+        let file = named(command, "--window", self.window)?;
         let space = self.space.map(|word| address(command, "--space", word)).transpose()?;
-        let first = self.first.map_or(Ok(0), |word| address(command, "--first", word))?;
+        let first = self.first.map(|word| address(command, "--first", word)).transpose()?;
         Ok(Memory { file, space, first })
+    }
+}
+
+/// The file that an option names.
+fn named(command: Command, option: &str, file: Option<&OsStr>) -> Result<PathBuf, Ending> {
+    match file {
+        None => wrong(Some(command), format!("{} needs {option} FILE", command.name())),
+        Some(file) if file == "-" || file.is_empty() => {
+            wrong(Some(command), format!("{option} needs the name of a file"))
+        }
+        Some(file) => Ok(PathBuf::from(file)),
     }
 }
 
@@ -206,9 +232,9 @@ fn address(command: Command, option: &str, word: &OsStr) -> Result<u64, Ending> 
     }
 }
 
-fn value(word: &OsStr) -> Result<String, Ending> {
+fn value(command: Command, word: &OsStr) -> Result<String, Ending> {
     match word.to_str() {
         Some(word) => Ok(word.to_string()),
-        None => wrong(Some(Command::Write), "the value isn't UTF-8".to_string()),
+        None => wrong(Some(command), "the value isn't UTF-8".to_string()),
     }
 }

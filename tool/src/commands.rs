@@ -2,6 +2,7 @@
 
 use crate::arguments::{Call, Memory};
 use crate::description_file::DescriptionFile;
+use crate::edits::{self, Files};
 use crate::ending::Ending;
 use crate::help::{self, Command};
 use crate::json::Object;
@@ -21,8 +22,16 @@ pub fn run(call: &Call, json: bool, output: &mut Output) -> Result<(), Ending> {
         Call::Show { file, number } => show(&Setting::find(file, *number)?, json, output),
         Call::Read { file, number, window } => read(&Setting::find(file, *number)?, window, json, output),
         Call::Write { file, number, value, window } => {
-            is_another(file, window)?;
+            are_others(Command::Write, file, &[("window", &window.file)])?;
             write(&Setting::find(file, *number)?, value, window, json, output)
+        }
+        Call::Edit { file, number, value, window, journal } => {
+            are_others(Command::Edit, file, &[("window", &window.file), ("journal", journal)])?;
+            edits::edit(&Setting::find(file, *number)?, value, window, journal, json, output)
+        }
+        Call::Undo { file, window, journal } => {
+            are_others(Command::Undo, file, &[("window", window), ("journal", journal)])?;
+            edits::undo(file, &Files { window, journal }, json, output)
         }
         Call::Help(command) => output.text(&help::text(*command)),
         Call::Version => output.text(help::VERSION),
@@ -69,10 +78,10 @@ fn counted(count: u64, word: &str) -> String {
 // ── one variable ──
 
 /// A variable, with the description that has it.
-struct Setting {
-    file: DescriptionFile,
-    description: Description,
-    variable: Variable,
+pub struct Setting {
+    pub file: DescriptionFile,
+    pub description: Description,
+    pub variable: Variable,
 }
 
 impl Setting {
@@ -87,19 +96,19 @@ impl Setting {
     }
 
     /// The window in a file, which is of the variable's own space if none is given.
-    fn window(&self, memory: &Memory) -> Result<Window<Vec<u8>>, Ending> {
+    pub fn window(&self, memory: &Memory) -> Result<Window<Vec<u8>>, Ending> {
         let space = memory.space.unwrap_or(self.variable.space);
-        Ok(Window::new(space, memory.first, window_file::read(&memory.file)?))
+        Ok(Window::new(space, memory.first.unwrap_or(0), window_file::read(&memory.file)?))
     }
 
     fn refused(&self, window: &Window<Vec<u8>>, refusal: Refusal) -> Ending {
-        let held = Held { space: window.space, first: window.first, length: window.bytes.len() as u64 };
+        let held = Held::of(window);
         let refused = Refused::of_the_variable(&self.file, &self.description, self.variable, held, refusal);
         Ending::Refused(Box::new(refused))
     }
 
     /// Its number, kind and a value, for a program. The value is a string, so that no reader of JSON rounds it.
-    fn object(&self, value: &Value<'_>) -> Object {
+    pub fn object(&self, value: &Value<'_>) -> Object {
         let kind = self.variable.kind.name();
         Object::new().plain("number", self.variable.number).text("kind", kind).text("value", &value.to_string())
     }
@@ -142,12 +151,32 @@ fn read(setting: &Setting, memory: &Memory, json: bool, output: &mut Output) -> 
     Ok(())
 }
 
-/// A slip of the hand would write a setting into the description itself.
-fn is_another(file: &OsStr, memory: &Memory) -> Result<(), Ending> {
-    if file != "-" && window_file::is_same(Path::new(file), &memory.file) {
-        return Err(Ending::WrongCall("the window is the description's own file".to_string(), Some(Command::Write)));
+/// A slip of the hand would write a setting into the description itself, or the one file into the other.
+fn are_others(command: Command, description: &OsStr, files: &[(&str, &Path)]) -> Result<(), Ending> {
+    let description = Some(("description", Path::new(description))).filter(|(_, file)| *file != Path::new("-"));
+    let all: Vec<(&str, &Path)> = description.into_iter().chain(files.iter().copied()).collect();
+    for (i, (name, file)) in all.iter().enumerate() {
+        if let Some((other, _)) = all[..i].iter().find(|(_, other)| window_file::is_same(file, other)) {
+            return Err(Ending::WrongCall(format!("the {name} is the {other}'s own file"), Some(command)));
+        }
     }
     Ok(())
+}
+
+/// A value as it is told: a text in quotes.
+pub fn told(value: &Value<'_>) -> String {
+    match value {
+        Value::Text(text) => format!("\"{}\"", shown(text)),
+        other => other.to_string(),
+    }
+}
+
+/// What a variable holds now.
+pub fn holds(number: u64, value: &Value<'_>, is_new: bool) -> String {
+    match is_new {
+        true => format!("variable {number} is now {}", told(value)),
+        false => format!("variable {number} was {} already", told(value)),
+    }
 }
 
 fn write(setting: &Setting, word: &str, memory: &Memory, json: bool, output: &mut Output) -> Result<(), Ending> {
@@ -162,12 +191,5 @@ fn write(setting: &Setting, word: &str, memory: &Memory, json: bool, output: &mu
     if json {
         return output.line(&setting.object(&value).plain("changed", is_new).finish());
     }
-    let value = match &value {
-        Value::Text(text) => format!("\"{}\"", shown(text)),
-        other => other.to_string(),
-    };
-    output.line(&match is_new {
-        true => format!("variable {number} is now {value}"),
-        false => format!("variable {number} was {value} already"),
-    })
+    output.line(&holds(number, &value, is_new))
 }

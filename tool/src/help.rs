@@ -8,12 +8,22 @@ pub enum Command {
     Show,
     Read,
     Write,
+    Edit,
+    Undo,
     Help,
 }
 
 impl Command {
-    const ALL: [Command; 6] =
-        [Command::List, Command::Check, Command::Show, Command::Read, Command::Write, Command::Help];
+    const ALL: [Command; 8] = [
+        Command::List,
+        Command::Check,
+        Command::Show,
+        Command::Read,
+        Command::Write,
+        Command::Edit,
+        Command::Undo,
+        Command::Help,
+    ];
 
     /// The command of this name.
     pub fn named(name: &str) -> Option<Command> {
@@ -27,6 +37,8 @@ impl Command {
             Command::Show => "show",
             Command::Read => "read",
             Command::Write => "write",
+            Command::Edit => "edit",
+            Command::Undo => "undo",
             Command::Help => "help",
         }
     }
@@ -34,16 +46,26 @@ impl Command {
     /// The words behind its name that it needs.
     pub fn words(self) -> &'static [&'static str] {
         match self {
-            Command::List | Command::Check => &["FILE"],
+            Command::List | Command::Check | Command::Undo => &["FILE"],
             Command::Show | Command::Read => &["FILE", "N"],
-            Command::Write => &["FILE", "N", "VALUE"],
+            Command::Write | Command::Edit => &["FILE", "N", "VALUE"],
             Command::Help => &[],
         }
     }
 
     /// Does it work on a window?
     pub fn has_window(self) -> bool {
-        matches!(self, Command::Read | Command::Write)
+        matches!(self, Command::Read | Command::Write) || self.has_journal()
+    }
+
+    /// Does it keep a journal?
+    pub fn has_journal(self) -> bool {
+        matches!(self, Command::Edit | Command::Undo)
+    }
+
+    /// Is it told which part of the node's memory the window is? To take an edit back, its journal tells that.
+    pub fn has_address(self) -> bool {
+        self.has_window() && self != Command::Undo
     }
 
     pub fn usage(self) -> &'static str {
@@ -53,6 +75,10 @@ impl Command {
             Command::Show => "planksling show FILE N [--json]",
             Command::Read => "planksling read FILE N --window FILE [--space N] [--first N] [--json]",
             Command::Write => "planksling write FILE N VALUE --window FILE [--space N] [--first N] [--json]",
+            Command::Edit => {
+                "planksling edit FILE N VALUE --window FILE --journal FILE [--space N] [--first N] [--json]"
+            }
+            Command::Undo => "planksling undo FILE --window FILE --journal FILE [--json]",
             Command::Help => "planksling help [COMMAND]",
         }
     }
@@ -64,6 +90,8 @@ impl Command {
             Command::Show => SHOW,
             Command::Read => READ,
             Command::Write => WRITE,
+            Command::Edit => EDIT,
+            Command::Undo => UNDO,
             Command::Help => HELP,
         }
     }
@@ -73,8 +101,15 @@ impl Command {
 pub fn text(command: Option<Command>) -> String {
     match command {
         None => ALL.to_string(),
-        Some(command) if command.has_window() => format!("{}\n\n{}\n{WINDOW}", command.usage(), command.about()),
-        Some(command) => format!("{}\n\n{}", command.usage(), command.about()),
+        Some(command) => {
+            let options = match command {
+                Command::Read | Command::Write => [WINDOW, ADDRESS].concat(),
+                Command::Edit => [WINDOW, JOURNAL, ADDRESS].concat(),
+                Command::Undo => [WINDOW, JOURNAL].concat(),
+                _ => return format!("{}\n\n{}", command.usage(), command.about()),
+            };
+            format!("{}\n\n{}\n{options}", command.usage(), command.about())
+        }
     }
 }
 
@@ -82,17 +117,21 @@ pub const VERSION: &str = concat!("planksling ", env!("CARGO_PKG_VERSION"), "\n"
 
 const ALL: &str = "\
 planksling lists, checks, reads and writes the settings (variables) of an
-OpenLCB node by the node's description (CDI), and explains what is refused.
+OpenLCB node by the node's description (CDI), takes edits back, and explains
+what is refused.
 
   planksling list FILE              where each variable lives
   planksling check FILE             is the description accepted?
   planksling show FILE N            all that is known of variable N
   planksling read FILE N            its value in a window
   planksling write FILE N VALUE     gives it another value in a window
+  planksling edit FILE N VALUE      the same, so that it can be taken back
+  planksling undo FILE              takes the latest edit back
   planksling help [COMMAND]         this, or more on a command
 
   --json          answers and refusals as JSON, for programs
-  --window FILE   for read and write: the node's memory, kept in a file
+  --window FILE   for read, write, edit, undo: the node's memory, in a file
+  --journal FILE  for edit and undo: what the edits replaced, in a file
   --space N       the space of that memory (the variable's own, if not given)
   --first N       the address of its first byte (0, if not given)
   --              ends the options, for a value that begins with -
@@ -138,12 +177,36 @@ its name, with the same owner and permissions. A refusal, a failure or a value
 that is there already leaves the file as it is.
 ";
 
+const EDIT: &str = "\
+Writes VALUE to variable N in the window, as `planksling write` does, and keeps
+the bytes that it replaced in the journal, so that `planksling undo` takes the
+edit back. A value that is there already is an edit too. At most 64 edits stand
+at a time, in 65,536 bytes.
+
+The journal belongs to this description and this window. The first edit makes
+it. Where something else has written to the window since, that is told, and
+nothing is changed.
+";
+
+const UNDO: &str = "\
+Takes the latest edit back that stands in the journal: its variable has its old
+bytes again, and no other byte of the window changes.
+
+Where something else has written to the window since the last edit, that is
+told, and nothing is changed.
+";
+
 const HELP: &str = "\
 Tells what a command does; without COMMAND, what there is.
 ";
 
 const WINDOW: &str = "  --window FILE   bytes of one space of the node's memory, at most 64 MiB
-  --space N       that space; the variable's own, if not given
+";
+
+const JOURNAL: &str = "  --journal FILE  what the edits of this window replaced
+";
+
+const ADDRESS: &str = "  --space N       that space; the variable's own, if not given
   --first N       the address of the file's first byte; 0, if not given
 
 Numbers of options are decimal, or hexadecimal with 0x in front.

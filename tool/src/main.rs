@@ -1,13 +1,15 @@
 //! `planksling`: the library as a tool for people. It lists, checks and shows what a description has, reads and writes settings in a window that is
-//! kept in a file, and explains what is refused. The answers are the library's; here they are only asked for and told.
+//! kept in a file, takes edits back, and explains what is refused. The answers are the library's; here they are only asked for and told.
 
 #![forbid(unsafe_code)]
 
 mod arguments;
 mod commands;
 mod description_file;
+mod edits;
 mod ending;
 mod help;
+mod journal_file;
 mod json;
 mod lines;
 mod output;

@@ -6,7 +6,7 @@ use crate::place::Spot;
 use crate::safe::shown;
 use crate::values;
 use crate::words::words;
-use planksling::{Cause, Description, Refusal, Variable};
+use planksling::{Cause, Description, Refusal, Session, Variable, Window};
 
 /// How many columns the words take at most.
 const WIDTH: usize = 80;
@@ -16,6 +16,9 @@ const INDENT: &str = "    ";
 
 /// The number of a record's field that tells the place of its element.
 const PLACE: usize = 1;
+
+/// The bytes of a journal's entry before the old ones.
+const ENTRY_HEAD: usize = 8;
 
 /// A refusal and all that is told of it.
 pub struct Refused {
@@ -84,6 +87,28 @@ impl Refused {
         Refused { spot, variable, window, notes, ..Refused::new(file, refusal) }
     }
 
+    /// The same, where so many edits stand.
+    pub fn beside_edits(mut self, standing: u64) -> Refused {
+        if let (Cause::JournalFull, Some(variable)) = (self.refusal.cause, &self.variable) {
+            let bytes = ENTRY_HEAD + variable.size;
+            self.notes.push(format!("Edits that stand: {standing}. This one needs {bytes} bytes of the journal."));
+        }
+        self
+    }
+
+    /// An edit that can't be taken back.
+    pub fn of_the_journal(file: &DescriptionFile, session: &Session<'_>, refusal: Refusal) -> Refused {
+        let notes = match (refusal.cause, session.latest()) {
+            (Cause::BadEntry, None) => vec!["The latest entry doesn't lie in the journal.".to_string()],
+            (Cause::BadEntry, Some(entry)) => {
+                let (number, size) = (entry.number, entry.old.len());
+                vec![format!("The latest entry is of variable {number}, with size {size}.")]
+            }
+            _ => vec![],
+        };
+        Refused { window: Some(Held::of(session.window())), notes, ..Refused::new(file, refusal) }
+    }
+
     /// For a person, in lines.
     pub fn plain(&self) -> String {
         let cause = self.refusal.cause;
@@ -125,6 +150,10 @@ impl Refused {
 }
 
 impl Held {
+    pub fn of(window: &Window<Vec<u8>>) -> Held {
+        Held { space: window.space, first: window.first, length: window.bytes.len() as u64 }
+    }
+
     fn told(self) -> String {
         let Held { space, first, length } = self;
         match length {

@@ -16,7 +16,8 @@ const MOST: u64 = 64 << 20;
 /// How many names are tried for the file beside.
 const TRIES: u32 = 100;
 
-fn name(file: &Path) -> String {
+/// A file's name as it may be shown.
+pub fn name(file: &Path) -> String {
     shown(&file.to_string_lossy())
 }
 
@@ -41,13 +42,30 @@ pub fn is_same(one: &Path, other: &Path) -> bool {
 
 /// Puts a file with these bytes in the place of this one.
 pub fn replace(file: &Path, bytes: &[u8]) -> Result<(), Ending> {
-    replaced(file, bytes).map_err(|error| {
-        Ending::NoFile(format!("{} can't be written, and is as it was: {}", name(file), reason(&error)))
-    })
+    let replaced = replaceable(file).and_then(|(real, old)| put(&real, &old, bytes));
+    replaced.map_err(|error| unwritten(file, &error))
 }
 
-fn replaced(file: &Path, bytes: &[u8]) -> io::Result<()> {
-    // a link stays, and what it leads to is replaced
+/// Could this file be replaced, as far as can be seen without doing it?
+pub fn can_be_replaced(file: &Path) -> Result<(), Ending> {
+    replaceable(file).map(drop).map_err(|error| unwritten(file, &error))
+}
+
+/// Makes a file with these bytes under a name that none has, with the owner and the permissions of another one.
+pub fn make(file: &Path, like: &Path, bytes: &[u8]) -> Result<(), Ending> {
+    let made = match fs::symlink_metadata(file) {
+        Ok(_) => Err(io::Error::other("there is something of this name")),
+        Err(_) => fs::metadata(like).and_then(|old| put(file, &old, bytes)),
+    };
+    made.map_err(|error| Ending::NoFile(format!("{} can't be made: {}", name(file), reason(&error))))
+}
+
+fn unwritten(file: &Path, error: &io::Error) -> Ending {
+    Ending::NoFile(format!("{} can't be written, and is as it was: {}", name(file), reason(error)))
+}
+
+/// The file that a name leads to. A link stays, and what it leads to is replaced.
+fn replaceable(file: &Path) -> io::Result<(PathBuf, Metadata)> {
     let real = fs::canonicalize(file)?;
     let old = fs::metadata(&real)?;
     if !old.is_file() {
@@ -55,13 +73,21 @@ fn replaced(file: &Path, bytes: &[u8]) -> io::Result<()> {
     }
     // who may not write to the file may not replace it either
     OpenOptions::new().write(true).open(&real)?;
-    let folder = real.parent().ok_or(io::ErrorKind::NotFound)?;
+    Ok((real, old))
+}
+
+/// Puts these bytes under a name that is no link, with the owner and the permissions of the old file.
+fn put(file: &Path, old: &Metadata, bytes: &[u8]) -> io::Result<()> {
+    let folder = match file.parent().ok_or(io::ErrorKind::NotFound)? {
+        here if here.as_os_str().is_empty() => Path::new("."),
+        folder => folder,
+    };
     let (mut new, mut beside) = Beside::create(folder)?;
     new.write_all(bytes)?;
-    keep_owner(&new, &old)?;
+    keep_owner(&new, old)?;
     new.set_permissions(old.permissions())?;
     new.sync_all()?;
-    fs::rename(&beside.path, &real)?;
+    fs::rename(&beside.path, file)?;
     beside.is_left = false;
     // The bytes are safe. That the new name is too needs the folder on the disk; where that can't be had nothing is lost.
     let _ = File::open(folder).and_then(|folder| folder.sync_all());
@@ -77,7 +103,7 @@ fn keep_owner(new: &File, old: &Metadata) -> io::Result<()> {
         .map_err(|error| io::Error::other(format!("its owner can't be kept, {}", reason(&error))))
 }
 
-/// A new file beside a window's. Where it doesn't take that one's name it is removed.
+/// A new file beside one. Where it doesn't take that one's name it is removed.
 struct Beside {
     path: PathBuf,
     is_left: bool,

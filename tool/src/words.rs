@@ -129,6 +129,19 @@ pub fn words(cause: Cause) -> (&'static str, &'static str) {
             "The bytes of this string are no text: no zero closes them, or what stands before it isn't UTF-8.",
             "Write the string anew.",
         ),
+        Cause::JournalFull => (
+            "No more edits can be kept: 64 stand, or the journal has no room for another one.",
+            "Take edits back, or go on with a new session and a journal of 65,536 bytes; what stands now then stays.",
+        ),
+        Cause::NothingToUndo => (
+            "There is nothing to take back: no edit stands.",
+            "All edits of the session were taken back already, or none was made.",
+        ),
+        Cause::BadEntry => (
+            "The latest edit can't be taken back: the journal doesn't hold it whole, or it isn't that of a setting in \
+             this window.",
+            "Hand over the description, the window and the journal with which it was made.",
+        ),
         // a cause of a later library
         _ => (cause.words(), ""),
     }

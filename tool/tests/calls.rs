@@ -72,7 +72,7 @@ fn help() {
         let told = folder.run_line(line);
         assert!(told.status == 0 && told.err.is_empty() && told.out.contains("planksling write FILE N VALUE"));
     }
-    for command in ["list", "check", "show", "read", "write", "help"] {
+    for command in ["list", "check", "show", "read", "write", "edit", "undo", "help"] {
         let told = folder.run(&["help", command]);
         assert!(told.status == 0 && told.out.starts_with(&format!("planksling {command} ")), "{told:?}");
         assert_eq!(folder.run(&[command, "--help"]), told);
@@ -120,9 +120,23 @@ fn wrong_calls() {
         ("write a 1 a b --window w", "`b` is a word too many; a text with blanks is put in quotes"),
         ("write a x 1 --window w", "`x` is no number of a variable"),
         ("write a 1 -x --window w", "there is no option `-x`; put `--` in front"),
-        ("list a --window w", "--window is for read and write"),
-        ("check a --space 1", "--space is for read and write"),
-        ("show a 0 --first 1", "--first is for read and write"),
+        ("edit a 0 --window w --journal j", "edit needs VALUE"),
+        ("edit a 0 1 --window w", "edit needs --journal FILE"),
+        ("edit a 0 1 --journal j", "edit needs --window FILE"),
+        ("edit a 0 1 --window w --journal -", "--journal needs the name of a file"),
+        ("edit a 0 1 --window w --journal j --journal j", "--journal stands twice"),
+        ("edit a 1 a b --window w --journal j", "`b` is a word too many; a text with blanks is put in quotes"),
+        ("undo --window w --journal j", "undo needs FILE"),
+        ("undo a --window w", "undo needs --journal FILE"),
+        ("undo a --journal j", "undo needs --window FILE"),
+        ("undo a 0 --window w --journal j", "`0` is a word too many"),
+        ("undo a --window w --journal j --space 1", "--space is for read, write and edit"),
+        ("undo a --window w --journal j --first 1", "--first is for read, write and edit"),
+        ("write a 0 1 --window w --journal j", "--journal is for edit and undo"),
+        ("list a --journal j", "--journal is for edit and undo"),
+        ("list a --window w", "--window is for read, write, edit and undo"),
+        ("check a --space 1", "--space is for read, write and edit"),
+        ("show a 0 --first 1", "--first is for read, write and edit"),
         ("list a --jsn", "there is no option `--jsn`"),
         ("list a --json=yes", "there is no option `--json=yes`"),
         ("-x", "there is no option `-x`"),

@@ -27,7 +27,9 @@ fn empty_file() {
 fn no_file() {
     let folder = Folder::new();
     folder.put("w", [0; 8]);
-    for words in ["list a", "check a", "show a 0", "read a 0 --window w", "write a 0 1 --window w"] {
+    let calls = ["list a", "check a", "show a 0", "read a 0 --window w", "write a 0 1 --window w"];
+    let edits = ["edit a 0 1 --window w --journal j", "undo a --window w --journal j"];
+    for words in calls.into_iter().chain(edits) {
         folder.run_line(words).failed(3, "planksling: a can't be read: there is no such file\n");
         folder.run_line(&format!("{words} --json")).failed(3, "there is no such file");
     }

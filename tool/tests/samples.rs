@@ -88,6 +88,8 @@ fn refused_descriptions() {
             folder.run(&words).failed(1, &stored);
         }
         folder.run(&["write", &file, "0", "0", &window]).failed(1, &stored);
+        folder.run(&["edit", &file, "0", "0", &window, "--journal=none.journal"]).failed(1, &stored);
+        folder.run(&["undo", &file, &window, "--journal=none.journal"]).failed(1, &stored);
     }
 }
 
@@ -95,12 +97,13 @@ fn refused_descriptions() {
 fn refused_calls() {
     let folder = folder();
     let files: Vec<String> = folder.names();
+    let kept = files.iter().filter(|name| name.ends_with(".window") || name.ends_with(".journal"));
+    let state = || kept.clone().map(|name| folder.state(name)).collect::<Vec<_>>();
     for name in names(".args") {
         let line = stored(&format!("{name}.args"));
-        let before: Vec<_> = names(".window").iter().map(|name| folder.state(&format!("{name}.window"))).collect();
+        let before = state();
         holds(&name, &folder.run_line(&line), &folder.run_line(&format!("{line} --json")));
-        let after: Vec<_> = names(".window").iter().map(|name| folder.state(&format!("{name}.window"))).collect();
-        assert!(before == after, "{name} touched a window");
+        assert!(before == state(), "{name} touched a window or a journal");
     }
     assert_eq!(folder.names(), files);
 }
