@@ -14,7 +14,7 @@ const INT: u64 = 3;
 const BEFORE: u64 = 24;
 
 /// A text, the table planned from it and the end of its content, as the check tells it: what the inner calls require.
-struct Known {
+pub struct Known {
     text: Vec<u8>,
     table: Vec<i64>,
     end: usize,
@@ -22,7 +22,7 @@ struct Known {
 
 /// A variable, and where the window around it begins.
 #[derive(Clone, Copy)]
-struct Place {
+pub struct Place {
     n: u64,
     space: u64,
     address: u64,
@@ -31,13 +31,13 @@ struct Place {
 }
 
 impl Place {
-    fn at(self) -> At {
+    pub fn at(self) -> At {
         At { n: self.n, space: self.space, first: self.first }
     }
 }
 
 impl Known {
-    fn new(text: Vec<u8>) -> Known {
+    pub fn new(text: Vec<u8>) -> Known {
         let mut table = lent(ROOM);
         let counts = proved::plan(&text, &mut table).expect("a plan");
         table.truncate(8 * counts.records);
@@ -52,7 +52,7 @@ impl Known {
     }
 
     /// As it has been checked.
-    fn checked(&self) -> Of<'_> {
+    pub fn checked(&self) -> Of<'_> {
         Of { end: Some(self.end), ..self.unchecked() }
     }
 
@@ -60,7 +60,7 @@ impl Known {
         proved::write(self.unchecked(), place.at(), window, value)
     }
 
-    fn write_known(&self, place: Place, window: &mut [u8], value: u64) -> usize {
+    pub fn write_known(&self, place: Place, window: &mut [u8], value: u64) -> usize {
         proved::write(self.checked(), place.at(), window, value)
     }
 
@@ -73,7 +73,7 @@ impl Known {
     }
 
     /// The first int of this size, from the middle of all variables on, that accepts the value.
-    fn chosen(&self, size: usize, value: u64) -> Place {
+    pub fn chosen(&self, size: usize, value: u64) -> Place {
         let mut rows = vec![0; 5 * MOST];
         let all = proved::list(&self.table, 0, &mut rows);
         let place = |n: usize| {
@@ -86,12 +86,12 @@ impl Known {
     }
 }
 
-fn window() -> [u8; 64] {
+pub fn window() -> [u8; 64] {
     [0xa5; 64]
 }
 
 /// The window as it should be after a write: the value's lowest bytes, highest first, where the variable stands.
-fn expected(at: Place, value: u64) -> [u8; 64] {
+pub fn expected(at: Place, value: u64) -> [u8; 64] {
     let mut held = window();
     let from = (at.address - at.first) as usize;
     held[from..from + at.size].copy_from_slice(&value.to_be_bytes()[8 - at.size..]);
@@ -112,7 +112,7 @@ fn try_out(known: &Known, at: Place, value: u64, write: Write, read: Read) {
 }
 
 /// The seconds of one call, over so many.
-fn time<T>(calls: usize, mut call: impl FnMut() -> T) -> f64 {
+pub fn time<T>(calls: usize, mut call: impl FnMut() -> T) -> f64 {
     let begun = Instant::now();
     for _ in 0..calls {
         let _ = black_box(call());
@@ -138,7 +138,7 @@ fn call(name: &str, known: &Known, at: Place, value: u64, calls: usize) -> f64 {
 
 const NAMES: [&str; 6] = ["plan", "check", "write", "read", "inner write", "inner read"];
 /// Ints to write, by their size, with a value that they accept.
-const INTS: [(&str, usize, u64); 2] =
+pub const INTS: [(&str, usize, u64); 2] =
     [("an int of 2 bytes with bounds", 2, 0x0102), ("an int of 1 byte with a map", 1, 2)];
 const ROUNDS: usize = 200;
 

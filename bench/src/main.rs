@@ -3,6 +3,7 @@
 mod accessing;
 mod answers;
 mod characters;
+mod editing;
 mod gate;
 mod growth;
 mod kinds;
@@ -139,7 +140,8 @@ fn long() -> [(&'static str, Vec<i64>); 3] {
 }
 
 fn main() {
-    if planning::asked() || accessing::asked() || library::asked() || characters::asked() || print::asked() {
+    let asked = [planning::asked, accessing::asked, editing::asked, library::asked, characters::asked, print::asked];
+    if asked.into_iter().any(|asked| asked()) {
         return;
     }
     let wide = || (0..40).map(|k| Item::Int(k % 3, [1, 2, 4, 8][k as usize % 4])).collect::<Vec<_>>();

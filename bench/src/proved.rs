@@ -106,6 +106,64 @@ pub fn write(Of { text, table, end }: Of, At { n, space, first }: At, window: &m
     }
 }
 
+/// Edits with an integer that isn't negative, and tells the number of a refusal or 0, and how many edits stand. Text and table have been checked.
+pub fn edit(
+    (Of { text, table, end }, At { n, space, first }): (Of, At),
+    window: &mut [u8],
+    journal: &mut [u8],
+    standing: u64,
+    value: u64,
+) -> (usize, u64) {
+    let mut session = standing;
+    let told = unsafe {
+        planksling_edit_integer_checked(
+            text.as_ptr(),
+            text.len(),
+            end.expect("a text that has been checked"),
+            table.as_ptr(),
+            table.len(),
+            n,
+            space,
+            first,
+            window.as_mut_ptr(),
+            window.len(),
+            journal.as_mut_ptr(),
+            journal.len(),
+            &mut session,
+            0,
+            value,
+        )
+    };
+    (told, session)
+}
+
+/// Takes the latest edit back, and tells the same.
+pub fn undo(
+    (Of { text, table, end }, At { space, first, .. }): (Of, At),
+    window: &mut [u8],
+    journal: &[u8],
+    standing: u64,
+) -> (usize, u64) {
+    let mut session = standing;
+    let told = unsafe {
+        planksling_undo_checked(
+            text.as_ptr(),
+            text.len(),
+            end.expect("a text that has been checked"),
+            table.as_ptr(),
+            table.len(),
+            space,
+            first,
+            window.as_mut_ptr(),
+            window.len(),
+            journal.as_ptr(),
+            journal.len(),
+            &mut session,
+        )
+    };
+    (told, session)
+}
+
 /// The number of a refusal or 0, and the magnitude.
 pub fn read(Of { text, table, end }: Of, At { n, space, first }: At, window: &[u8]) -> (usize, u64) {
     let (content, length, rows, numbers) = (text.as_ptr(), text.len(), table.as_ptr(), table.len());
