@@ -5,6 +5,7 @@ pub mod accesses; // writing and reading
 pub mod leaves; // single readings
 pub mod plans; // planning
 pub mod reads; // answers to reading
+pub mod sessions; // sessions with undo
 pub mod tables; // locating
 pub mod writes; // answers to writing
 
@@ -47,7 +48,7 @@ fn next(
         return plans::frame(text, table, out, at);
     }
     if first == b'J' {
-        return answers_sessions::frame(text, table, window, value, out, at);
+        return sessions::frame(text, table, window, value, out, at);
     }
     if is_access(first) {
         return accesses::frame(first, text, table, window, value, out, at);

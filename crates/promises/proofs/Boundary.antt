@@ -5,6 +5,8 @@ use mathlib.Core.Bool.{Bool, true, false, cond}
 use mathlib.Core.Logic.{_⊎_, inl, inr, ⊎-elim}
 use Prim.Native.Nat.{ℕ, zero, suc, _*_, _≤_}
 use native.Mathlib.Omega.{arith}
+use borrow.Author.Tests.{eqb-true, eqb-false}
+use lib.Dec.{eqb}
 use lib.IntN.{ℤ}
 use lib.ListN.{take, getD}
 use Rattle.cdi.specs.Faults.{Fault, fault, Answer, accepted, refused, _andThen_}
@@ -28,6 +30,8 @@ use Rattle.access_reading.specs.declared.Reading.the-variants as reading
 use Rattle.access_writing.specs.Told.{writtenOf}
 use Rattle.access_writing.specs.declared.Written.the-variants as write
 use Rattle.outcomes.specs.Outcomes.{numberIn, valueAfter}
+use Rattle.undo_model.specs.Sessions.{State, Edit, edited, undone, answered}
+use Rattle.undo_laws.proofs.Edits.{edit-30, undo-31, undo-35, undo-refused, edit-refused}
 use Rattle.planksling_out.specs.Readings.{showing}
 use Rattle.planksling.specs.Answers.{tested, shown}
 use Rattle.promises.proofs.Terms.{TextNumber}
@@ -39,7 +43,7 @@ use Rattle.promises.proofs.Calls as calls
 
 module _ {A : Type 0} where
   -- no refusal has the number 0
-  abbrev pub Numbered : Answer A → Type 0
+  abbrev Numbered : Answer A → Type 0
   Numbered a = (f : Fault) → a ≡ refused f → 1 ≤ f .number
 
   pub zero-accepts : (a : Answer A) → Numbered a → 0 ≡ numberIn a → (x : A) × (a ≡ accepted x)
@@ -47,7 +51,7 @@ module _ {A : Type 0} where
   zero-accepts (accepted x) k e = (x, refl)
   zero-accepts (refused f) k e = absurd (omega (arith, k f refl))
 
-pub text-positive : (m : ℕ) → TextNumber m → 1 ≤ m
+text-positive : (m : ℕ) → TextNumber m → 1 ≤ m
 text-positive m (inl h) = omega arith
 text-positive m (inr (inl (inl h))) = omega arith
 text-positive m (inr (inl (inr h))) = omega arith
@@ -165,3 +169,79 @@ module _ (b : List ℕ) (t : List ℤ) {end : ℕ} (checked : knownOf b t ≡ ac
   pub read-place : shown b t n space first bytes ≡ refused f → (21 ≤ f .number) × (f .number ≤ 28) × (f .place ≡ 0)
   unfolding shown readingOf ReadAt
   read-place e = accesses.read-checked b t n space first bytes (reading.Refused (f .number) (f .place)) (sym (not-shown f _ _ e)) tt checked refl
+
+-- ── edits and undos (R-6) ──
+
+-- the numbers of an edit's refusals: those of writing, and 30; and of an undo's: 1 to 12 and 20 as of writing, 31, 35
+abbrev pub EditNumber : ℕ → Type 0
+EditNumber m = TextNumber m ⊎ (((20 ≤ m) × (m ≤ 27)) ⊎ (m ≡ 30))
+
+abbrev pub UndoNumber : ℕ → Type 0
+UndoNumber m = TextNumber m ⊎ ((m ≡ 20) ⊎ ((m ≡ 31) ⊎ (m ≡ 35)))
+
+numbered : {f g : Fault} → f ≡ g → f .number ≡ g .number
+numbered e = ap (λ (x : Fault). x .number) e
+
+module _ (b : List ℕ) (t : List ℤ) (s : State) (f : Fault) where
+  -- why an edit is refused: writing is, or it is 30 at 0
+  edit-cause : (e : Edit) → edited b t e s ≡ refused f → (written b t (e .number) (s .window) (e .value) ≡ refused f) ⊎ (f ≡ fault 30 0)
+  edit-cause e q = by (written b t (e .number) (s .window) (e .value)) refl
+    where
+      by : (a : Answer (Unit {0})) → written b t (e .number) (s .window) (e .value) ≡ a → (written b t (e .number) (s .window) (e .value) ≡ refused f) ⊎ (f ≡ fault 30 0)
+      by (accepted tt) p = inr (edit-30 b t s e f p q)
+      by (refused g) p = let y = edit-refused b t s e g p in inl (cc)
+
+  -- why an undo is: text or table are, or it is 31 or 35 at 0
+  undo-cause : undone b t s ≡ refused f → ((described b andThen exact t) ≡ refused f) ⊎ ((f ≡ fault 31 0) ⊎ (f ≡ fault 35 0))
+  undo-cause q = by (described b andThen exact t) refl
+    where
+      stands : (d : Description) → (described b andThen exact t) ≡ accepted d → (x : Bool) → eqb (s .session) 0 ≡ x → (f ≡ fault 31 0) ⊎ (f ≡ fault 35 0)
+      stands d p true x = let y = undo-31 b t s d p (eqb-true _ _ x) in inl (cc)
+      stands d p false x = inr (undo-35 b t s d f p (eqb-false _ _ x) q)
+
+      by : (a : Answer Description) → (described b andThen exact t) ≡ a → ((described b andThen exact t) ≡ refused f) ⊎ ((f ≡ fault 31 0) ⊎ (f ≡ fault 35 0))
+      by (accepted d) p = inr (stands d p (eqb (s .session) 0) refl)
+      by (refused g) p = let y = undo-refused b t s g p in inl (cc)
+
+  module _ (e : Edit) (q : edited b t e s ≡ refused f) where
+    pub edit-number : EditNumber (f .number)
+    unfolding writtenOf
+    edit-number =
+        ⊎-elim
+        (λ p. ⊎-elim inl (λ h. inr (inl h)) (accesses.write-number b t (e .number) (s .window) (e .value) (write.Refused (f .number) (f .place)) (sym p) refl))
+        (λ z. inr (inr (numbered z)))
+        (edit-cause e q)
+
+    -- of a text and a table that have been checked it has place 0
+    pub edit-place : {end : ℕ} → knownOf b t ≡ accepted end → (21 ≤ f .number) × (f .number ≤ 30) × (f .place ≡ 0)
+    unfolding writtenOf
+    edit-place k =
+        ⊎-elim
+        (λ p. let h = accesses.write-checked b t (e .number) (s .window) (e .value) (write.Refused (f .number) (f .place)) (sym p) k refl in (h .0, omega arith, h .2))
+        (λ z. rw z (omega arith, omega arith, refl))
+        (edit-cause e q)
+
+  module _ (q : undone b t s ≡ refused f) where
+    pub undo-number : UndoNumber (f .number)
+    undo-number =
+        ⊎-elim
+        (λ p. ⊎-elim inl (λ z. inr (inl (numbered z))) (accesses.exact-number b t f p))
+        (λ r. inr (inr (⊎-elim (λ z. inl (numbered z)) (λ z. inr (numbered z)) r)))
+        (undo-cause q)
+
+    pub undo-place : {end : ℕ} → knownOf b t ≡ accepted end → (f ≡ fault 31 0) ⊎ (f ≡ fault 35 0)
+    unfolding knownOf
+    undo-place k = ⊎-elim (λ p. let z = rw p at k in impossible (cc)) (λ r. r) (undo-cause q)
+
+-- so a call under a C name returns 0 exactly where it is accepted
+module _ (b : List ℕ) (t : List ℤ) (s : State) where
+  pub edit-numbered : (e : Edit) → Numbered (edited b t e s)
+  edit-numbered e f q = ⊎-elim (text-positive (f .number)) (λ h. ⊎-elim (λ z. omega arith) (λ z. omega arith) h) (edit-number b t s f e q)
+
+  pub undo-numbered : Numbered (undone b t s)
+  undo-numbered f q = ⊎-elim (text-positive (f .number)) (λ h. ⊎-elim (λ z. omega arith) (λ h. ⊎-elim (λ z. omega arith) (λ z. omega arith) h) h) (undo-number b t s f q)
+
+pub answered-numbered : (a : Answer State) → Numbered a → Numbered (answered a)
+unfolding answered
+answered-numbered (accepted s) k f e = impossible (cc)
+answered-numbered (refused g) k f e = let z : g ≡ f = cc in k f (ap refused z)

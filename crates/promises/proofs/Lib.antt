@@ -6,4 +6,3 @@ pub mod Accesses
 pub mod Calls
 pub mod Page
 pub mod Boundary
-pub mod Sessions

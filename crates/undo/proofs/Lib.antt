@@ -1,4 +1,4 @@
 -- The laws of edits and undos.
 pub mod Editing
 pub mod Once
-pub mod Running
+pub mod Promises

@@ -25,7 +25,7 @@ use Rattle.access_writing.specs.Told.{Room}
 use Rattle.access_writing.proofs.Storing.{refused-is, accepted-is, from-inside, to-inside, has-room, is-changed}
 use Rattle.undo_model.specs.Journal.{room, beginning, hasRoom, entryBytes}
 use Rattle.undo_model.specs.Sessions.{State, holding, entryOf, canStand, answered, after}
-use Rattle.undo_model.proofs.Entries.{room-exactly}
+use Rattle.undo_laws.proofs.Entries.{room-exactly}
 use Rattle.undo_entries.specs.Begun.{begunOf, standsIn, entryFor}
 use Rattle.undo_entries.specs.declared.Begun.{Begun}
 use Rattle.undo_entries.specs.declared.Begun.the-variants.{At, Nothing}

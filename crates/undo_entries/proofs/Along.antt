@@ -8,7 +8,7 @@ use borrow.Author.Needs.{needs}
 use lib.ListN.{length, take, drop}
 use Rattle.cdi.specs.Values.{valueOf}
 use Rattle.undo_model.specs.Journal.{fourAt, beginning, lie}
-use Rattle.undo_model.proofs.Walks.{Reached, reached-lie, start, next, no-head, no-bytes}
+use Rattle.undo_laws.proofs.Walks.{Reached, reached-lie, start, next, no-head, no-bytes}
 use Rattle.undo_entries.specs.Begun.{begunOf, begun}
 use Rattle.undo_entries.specs.declared.Begun.the-variants.{At, Nothing}
 

@@ -14,8 +14,8 @@ use lib.Seq.{take-all, take-length}
 use Rattle.cdi.specs.Values.{valueOf}
 use Rattle.cdi.proofs.Quiet.{impossible}
 use Rattle.undo_model.specs.Journal.{room, fourAt, beginning, lie, hasRoom}
-use Rattle.undo_model.proofs.Entries.{room-exactly, last-lies}
-use Rattle.undo_model.proofs.Walks.{Reached, reached-lie, next, no-head, no-bytes, none-behind}
+use Rattle.undo_laws.proofs.Entries.{room-exactly, last-lies}
+use Rattle.undo_laws.proofs.Walks.{Reached, reached-lie, next, no-head, no-bytes, none-behind}
 use Rattle.undo_entries.specs.Begun.{begunOf, begun, standsIn, lastOf, headIn, lastIn}
 use Rattle.undo_entries.specs.declared.Begun.{Begun}
 use Rattle.undo_entries.specs.declared.Begun.the-variants.{At, Nothing}

@@ -20,7 +20,7 @@ use Rattle.access_kinds.proofs.Deciding.{inside-is}
 use Rattle.access_kinds.proofs.Owned.{own-length}
 use Rattle.undo_model.specs.Journal.{room, fourAt, beginning, lie, entryAt}
 use Rattle.undo_model.specs.Sessions.{State, holding, latest, withoutEdit, canUndo, takenBack, answered, after}
-use Rattle.undo_model.proofs.Entries.{last-lies}
+use Rattle.undo_laws.proofs.Entries.{last-lies}
 use Rattle.undo_edit.specs.Told.{outcomeOf, stateOf, windowLeft}
 use Rattle.undo_edit.specs.declared.Outcome.the-variants.{Stands, Refused}
 use Rattle.undo_take.specs.Held.{Held}

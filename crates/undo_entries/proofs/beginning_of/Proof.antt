@@ -1,5 +1,5 @@
 use Prim.Native.Nat.{_-_, _≤_}
-use Rattle.undo_model.proofs.Walks.{Reached}
+use Rattle.undo_laws.proofs.Walks.{Reached}
 use Rattle.undo_entries.proofs.Along.{walk-loop}
 use Rattle.undo_entries.proofs.beginning_of.Statement.{statement}
 use Rattle.undo_entries.proofs.beginning_of.Tie as tie

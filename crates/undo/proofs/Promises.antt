@@ -1,4 +1,4 @@
--- Calls in turn, of which only the contracts are known: what each answers and what it leaves.
+-- What edits and undos promise: calls in turn, of which only the contracts are known, what each answers and what it leaves.
 use mathlib.Core.Path.{_≡_, refl, sym, ap, _∙_}
 use mathlib.Core.List.{List, [], _∷_}
 use Prim.Native.Nat.{ℕ, _≤_}
@@ -9,8 +9,8 @@ use Rattle.cdi.specs.Access.{Window}
 use Rattle.cdi.proofs.Quiet.{impossible, same-accepted}
 use Rattle.access_kinds.specs.Told.{windowOf}
 use Rattle.undo_model.specs.Sessions.{State, opened, holding, wrote, withEdit, withoutEdit, edited, undone, answered, after, Edit, Call, edit, undo, called, afterAll, remaining, applied}
-use Rattle.undo_model.proofs.Edits.{accepted-edit, accepted-undo}
-use Rattle.undo_model.proofs.Promises.{window-is, at-most-64, session-is, edit-undo}
+use Rattle.undo_laws.proofs.Edits.{accepted-edit, accepted-undo}
+use Rattle.undo_laws.proofs.Promises.{window-is, at-most-64, session-is, edit-undo}
 use Rattle.undo_edit.specs.Told.{outcomeOf, stateOf, windowLeft, journalLeft}
 use Rattle.undo_edit.specs.declared.Outcome.{Outcome}
 use Rattle.undo_edit.specs.declared.Outcome.the-variants.{Stands, Refused}

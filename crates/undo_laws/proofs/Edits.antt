@@ -13,14 +13,14 @@ use Rattle.cdi.specs.Faults.{Fault, fault, Answer, accepted, refused, _andThen_
 use Rattle.cdi.specs.Walk.{Found}
 use Rattle.cdi.specs.Plans.{variableOf}
 use Rattle.cdi.specs.Planning.{Description, described}
-use Rattle.cdi.specs.Access.{Window, Value, Setting, exact, settingOf, isInside, firstCause, writeCauses, startIn, overwritten, written}
+use Rattle.cdi.specs.Access.{Window, Value, Setting, exact, settingOf, isInside, startIn, overwritten, written}
 use Rattle.cdi.proofs.Quiet.{impossible, through, test-passed}
 use Rattle.cdi.proofs.Tests.{parts}
 use Rattle.cdi.proofs.Back.{lies, length-overwritten, own-overwritten, before-overwritten, behind-overwritten}
 use Rattle.undo_model.specs.Journal.{entryBytes, room, entryAt, beginning, lie, hasRoom}
 use Rattle.undo_model.specs.Sessions.{State, holding, entryOf, withEdit, canStand, edited, latest, withoutEdit, canUndo, takenBack, undoneIn, undone, after, Edit, Call, edit, undo, called, afterAll}
-use Rattle.undo_model.proofs.Entries.{length-entry, last-lies, room-exactly, same-walk, room-overwritten}
-use Rattle.undo_model.proofs.Taking.{Accepted, own, own-fits, taken-back}
+use Rattle.undo_laws.proofs.Entries.{length-entry, last-lies, room-exactly, same-walk, room-overwritten}
+use Rattle.undo_laws.proofs.Taking.{Accepted, own, own-fits, taken-back}
 
 -- "A refusal leaves session, window and journal unchanged."
 pub refused-unchanged : (b : List ℕ) (t : List ℤ) (s : State) (c : Call) (f : Fault) → called b t s c ≡ refused f → after s (called b t s c) ≡ s
@@ -238,16 +238,6 @@ module _ (b : List ℕ) (t : List ℤ) (s : State) where
   unfolding written settingOf
   write-refused n w v f q = rw q
 
-  -- by the setting, as code finds it: the causes of writing in their order, then 30
-  pub edit-of-setting : (e : Edit) (g : Setting) → settingOf b t (e .number) ≡ accepted g
-      → edited b t e s ≡ (firstCause (writeCauses (s .window) (e .value) g) andThen λ u. cond (canStand s (g .variable)) (accepted (withEdit b t e s (g .variable))) (refused (fault 30 0)))
-  unfolding edited written
-  edit-of-setting e g q = rw q
-
-  pub edit-of-none : (e : Edit) (f : Fault) → settingOf b t (e .number) ≡ refused f → edited b t e s ≡ refused f
-  unfolding edited written
-  edit-of-none e f q = rw q
-
   -- 31: no edit stands, whatever the journal holds
   pub undo-31 : (d : Description) → (described b andThen exact t) ≡ accepted d → s .session ≡ 0 → undone b t s ≡ refused (fault 31 0)
   unfolding undone undoneIn
@@ -280,20 +270,7 @@ module _ (b : List ℕ) (t : List ℤ) (s : State) where
       by (refused g) p r = impossible (found-first b t s e g p q)
       by (accepted g) p r = tested (canStand s (g .variable)) (withEdit b t e s (g .variable)) r
 
--- 30: 64 edits stand, or entry s with this size would not end in the room
-pub stand-exactly : (s : State) (x : Found) → canStand s x ≡ (ltb (s .session) 64 && leb (beginning (room (s .journal)) (s .session) + 8 + x .size) (length (room (s .journal))))
-unfolding canStand
-stand-exactly s x = rw (room-exactly (room (s .journal)) (s .session) (x .size))
-
 -- ── any calls ──
-
--- a text that is refused, or another table: no call changes anything
-pub nothing-accepted : (b : List ℕ) (t : List ℤ) (f : Fault) → (described b andThen exact t) ≡ refused f → (cs : List Call) (s : State) → afterAll b t s cs ≡ s
-unfolding afterAll after called
-nothing-accepted b t f q [] s = refl
-nothing-accepted b t f q (undo ∷ cs) s = rw (undo-refused b t s f q) (nothing-accepted b t f q cs s)
-nothing-accepted b t f q (edit e ∷ cs) s =
-    rw (edit-refused b t s e f (write-refused b t s (e .number) (s .window) (e .value) f q)) (nothing-accepted b t f q cs s)
 
 journal-call : (b : List ℕ) (t : List ℤ) (c : Call) (s : State) → length (after s (called b t s c) .journal) ≡ length (s .journal)
 unfolding called after

@@ -2,8 +2,8 @@ use mathlib.Core.Path.{_≡_}
 use Prim.Native.Nat.{_≤_, _-_}
 use lib.ListN.{length}
 use borrow.Author.Needs.{needs}
-use Rattle.answers_sessions.proofs.put_outcomes.Statement.{statement}
-use Rattle.answers_sessions.proofs.put_outcomes.Tie as tie
+use Rattle.answers.proofs.sessions.put_outcomes.Statement.{statement}
+use Rattle.answers.proofs.sessions.put_outcomes.Tie as tie
 
 abbrev Inv-loop : tie.InvT-loop
 Inv-loop numbers places out₀ at to₀ i₀ t8 out to i =

@@ -10,11 +10,11 @@ use lib.ListN.{length, take, drop, length-append, length-take}
 use Rattle.cdi.specs.Faults.{Answer, accepted, refused}
 use Rattle.cdi.specs.Access.{Window, settingOf, overwritten}
 use Rattle.cdi.proofs.Tests.{both}
 use Rattle.undo_model.specs.Journal.{entryBytes, room, beginning}
 use Rattle.undo_model.specs.Sessions.{State, opened, entryOf, withEdit, canStand, edited, undone, after, Edit, Call, edit, undo, called, afterAll, standing, remaining, wrote, applied}
-use Rattle.undo_model.proofs.Entries.{length-entry, next-beginning, room-exactly, room-overwritten}
-use Rattle.undo_model.proofs.Taking.{Accepted, nothing-standing, own, own-fits, taken-back}
-use Rattle.undo_model.proofs.Edits.{Edited, accepted-edit, edit-accepted, edit-accepts, journal-is, journal-all}
+use Rattle.undo_laws.proofs.Entries.{length-entry, next-beginning, room-exactly, room-overwritten}
+use Rattle.undo_laws.proofs.Taking.{Accepted, nothing-standing, own, own-fits, taken-back}
+use Rattle.undo_laws.proofs.Edits.{Edited, accepted-edit, edit-accepted, edit-accepts, journal-is, journal-all}
 
 -- the entry that an edit left
 unfoldable pub entryFor : List ℕ → List ℤ → Edit → Window → List ℕ

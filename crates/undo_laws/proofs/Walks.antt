@@ -8,8 +8,8 @@ use native.Mathlib.Omega.{arith}
 use native.Mathlib.Decide.{decLe}
 use lib.ListN.{length}
 use Rattle.cdi.proofs.Quiet.{impossible}
 use Rattle.undo_model.specs.Journal.{fourAt, beginning, lie}
-use Rattle.undo_model.proofs.Entries.{all-lie, last-lies}
+use Rattle.undo_laws.proofs.Entries.{all-lie, last-lies}
 
 -- entries 0 to i - 1 lie in the room, and entry i begins at `at`
 pub record Reached (r : List ℕ) (i at : ℕ) : Type 0 where

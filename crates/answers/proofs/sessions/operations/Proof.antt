@@ -2,8 +2,8 @@ use mathlib.Core.Path.{_≡_}
 use Prim.Native.Nat.{_≤_, _-_}
 use lib.ListN.{length}
 use borrow.Author.Needs.{needs}
-use Rattle.answers_sessions.proofs.operations.Statement.{statement}
-use Rattle.answers_sessions.proofs.operations.Tie as tie
+use Rattle.answers.proofs.sessions.operations.Statement.{statement}
+use Rattle.answers.proofs.sessions.operations.Tie as tie
 
 abbrev Inv-loop : tie.InvT-loop
 Inv-loop text table space first window₀ journal₀ session value₀ numbers₀ places₀ stands₀ steps₀ i₀ window journal value numbers places stands steps i =

@@ -14,10 +14,10 @@ use Rattle.cdi.specs.Planning.{Description, described}
 use Rattle.cdi.specs.Access.{Window, Setting, exact, settingOf, isInside, startIn, overwritten, written}
 use Rattle.cdi.proofs.Quiet.{impossible, through}
 use Rattle.cdi.proofs.Tests.{both}
 use Rattle.undo_model.specs.Journal.{Entry, entryBytes, room, entryAt, beginning, lie}
 use Rattle.undo_model.specs.Sessions.{State, holding, wrote, entryOf, latest, withoutEdit, canUndo, takenBack, undoneIn, undone, Edit}
-use Rattle.undo_model.proofs.Entries.{Fits, entry-back, next-beginning, all-lie}
-use Rattle.undo_model.proofs.Writes.{named, length-old, inside-after, window-back}
+use Rattle.undo_laws.proofs.Entries.{Fits, entry-back, next-beginning, all-lie}
+use Rattle.undo_laws.proofs.Writes.{named, length-old, inside-after, window-back}
 
 -- an edit that writing accepts in the window u, of a variable whose entry can lie in a room
 pub record Accepted (b : List ℕ) (t : List ℤ) (e : Edit) (u : Window) : Type 0 where

@@ -1,0 +1,1 @@
+// The laws of sessions with undo stand in proofs/. This crate has no code.
