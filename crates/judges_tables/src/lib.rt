@@ -27,14 +27,8 @@ const ROWS: [u64; 12] = [
     0o21_000000_000000,
 ];
 
-// The entry of each row at which more than one child may stand, or 0.
-const MANY: [u8; 12] = [0, 3, 0, 0, 3, 4, 0, 0, 0, 0, 3, 0];
-
-fn wide(number: u8) -> usize
-    ensures { λ r. ⌜ r ≡ number ⌝ }
-{
-    number as usize
-}
+// The entry of each row at which more than one child may stand, or 0, as one octal number: that of the first row is the last digit.
+const MANY: u64 = 0o3_0000_43_00_30;
 
 // The row of that number; those of elements that hold text only have no child.
 fn row_of(row: usize) -> u64
@@ -85,7 +79,7 @@ fn many_of(row: usize) -> usize
     ensures { λ r. ⌜ r ≡ manyAt row ⌝ }
 {
     if row < 12 {
-        return wide(MANY[row]);
+        return digit(MANY, row);
     }
     0
 }
