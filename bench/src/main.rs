@@ -2,6 +2,7 @@
 
 mod accessing;
 mod answers;
+mod backups;
 mod characters;
 mod editing;
 mod gate;
@@ -9,6 +10,7 @@ mod growth;
 mod kinds;
 mod library;
 mod plain;
+mod plain_backup;
 mod planner;
 mod planning;
 mod print;
@@ -140,7 +142,15 @@ fn long() -> [(&'static str, Vec<i64>); 3] {
 }
 
 fn main() {
-    let asked = [planning::asked, accessing::asked, editing::asked, library::asked, characters::asked, print::asked];
+    let asked = [
+        planning::asked,
+        accessing::asked,
+        editing::asked,
+        backups::asked,
+        library::asked,
+        characters::asked,
+        print::asked,
+    ];
     if asked.into_iter().any(|asked| asked()) {
         return;
     }

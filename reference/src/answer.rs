@@ -1,6 +1,7 @@
 //! Cases and their answers: what is asked, what comes back, and the line that is printed for it.
 
 use crate::access::{read, write, Access, ReadValue, Value};
+use crate::backup::{restore, store};
 use crate::description::Kind;
 use crate::leaves::{leaf_line, Leaf};
 use crate::plan::plan_into;
@@ -18,6 +19,8 @@ pub enum Case {
     WriteText { access: Access, value: Vec<u8> },
     Read { access: Access },
     Session { session: Session, operations: Vec<Operation> },
+    Store { space: u64, window: Vec<u8>, room: u64 },
+    Restore { backup: Vec<u8>, room: u64 },
     Leaf(Leaf),
 }
 
@@ -78,6 +81,21 @@ pub enum Answer {
     Session {
         steps: Vec<Step>,
         session: Session,
+    },
+    /// How many bytes all blocks take.
+    Stored {
+        length: u64,
+        output: Vec<u8>,
+    },
+    /// How many bytes the window has, and its space.
+    Restored {
+        length: u64,
+        space: u8,
+        output: Vec<u8>,
+    },
+    BackupRefused {
+        refusal: Refusal,
+        output: Vec<u8>,
     },
     /// The line for a single reading.
     Leaf {
@@ -140,6 +158,27 @@ fn answer_session(opening: &Session, operations: &[Operation]) -> Answer {
     Answer::Session { steps, session }
 }
 
+/// The output that is lent for a backup or a window: byte i holds (7 i + 3) mod 256.
+pub fn lent_output(room: u64) -> Vec<u8> {
+    (0..room).map(|place| ((7 * place + 3) % 256) as u8).collect()
+}
+
+fn answer_store(space: u64, window: &[u8], room: u64) -> Answer {
+    let mut output = lent_output(room);
+    match store(space, window, &mut output) {
+        Ok(length) => Answer::Stored { length: length as u64, output },
+        Err(refusal) => Answer::BackupRefused { refusal, output },
+    }
+}
+
+fn answer_restore(backup: &[u8], room: u64) -> Answer {
+    let mut output = lent_output(room);
+    match restore(backup, &mut output) {
+        Ok((length, space)) => Answer::Restored { length: length as u64, space, output },
+        Err(refusal) => Answer::BackupRefused { refusal, output },
+    }
+}
+
 pub fn answer(case: &Case) -> Answer {
     match case {
         Case::Plan { room, text } => answer_plan(*room, text),
@@ -151,6 +190,8 @@ pub fn answer(case: &Case) -> Answer {
         Case::WriteText { access, value } => answer_write(access, Value::Text(value.clone())),
         Case::Read { access } => answer_read(access),
         Case::Session { session, operations } => answer_session(session, operations),
+        Case::Store { space, window, room } => answer_store(*space, window, *room),
+        Case::Restore { backup, room } => answer_restore(backup, *room),
         Case::Leaf(leaf) => Answer::Leaf { line: leaf_line(leaf) },
     }
 }
@@ -165,8 +206,8 @@ fn table_hash(table: &[i64]) -> String {
     format!("{:016x}", hash(table.iter().flat_map(|number| number.to_be_bytes())))
 }
 
-fn window_hash(window: &[u8]) -> String {
-    format!("{:016x}", hash(window.iter().copied()))
+fn bytes_hash(bytes: &[u8]) -> String {
+    format!("{:016x}", hash(bytes.iter().copied()))
 }
 
 fn flag(accepted: bool) -> &'static str {
@@ -200,7 +241,7 @@ fn session_line(steps: &[Step], session: &Session) -> String {
     let outcomes = if outcomes.is_empty() { "-".to_string() } else { outcomes.join(",") };
     let told = steps.iter().flat_map(|step| [step.standing, step.window, step.journal]);
     let all = hash(told.flat_map(u64::to_be_bytes));
-    let (window, journal) = (window_hash(&session.window), window_hash(&session.journal));
+    let (window, journal) = (bytes_hash(&session.window), bytes_hash(&session.journal));
     format!("session {outcomes} {} {window} {journal} {all:016x}", session.standing)
 }
 
@@ -213,12 +254,15 @@ pub fn line(answer: &Answer) -> String {
             format!("found {record} {space} {address} {size} {}", kind.name())
         }
         Answer::LocateRefused { refusal } | Answer::ReadRefused { refusal } => refused(refusal),
-        Answer::Written { window } => format!("written {}", window_hash(window)),
-        Answer::WriteRefused { refusal, window } => format!("{} {}", refused(refusal), window_hash(window)),
+        Answer::Written { window } => format!("written {}", bytes_hash(window)),
+        Answer::WriteRefused { refusal, window } => format!("{} {}", refused(refusal), bytes_hash(window)),
         Answer::Integer { value, accepted } => format!("integer {value} {}", flag(*accepted)),
         Answer::Event { value, accepted } => format!("event {value} {}", flag(*accepted)),
         Answer::Text { bytes, accepted } => format!("text {} {}", hex(bytes), flag(*accepted)),
         Answer::Session { steps, session } => session_line(steps, session),
+        Answer::Stored { length, output } => format!("stored {length} {}", bytes_hash(output)),
+        Answer::Restored { length, space, output } => format!("restored {length} {space} {}", bytes_hash(output)),
+        Answer::BackupRefused { refusal, output } => format!("{} {}", refused(refusal), bytes_hash(output)),
         Answer::Leaf { line } => line.clone(),
     }
 }

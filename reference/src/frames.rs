@@ -9,6 +9,9 @@ use crate::session::{Operation, Session};
 
 /// The limits of a frame.
 pub const ROOM_LIMIT: u64 = 40_000;
+/// Of a lent output of bytes.
+pub const OUTPUT_LIMIT: u64 = 80_000;
+pub const BACKUP_LIMIT: usize = 80_000;
 pub const BYTES_LIMIT: usize = 70_000;
 pub const NUMBERS_LIMIT: usize = 40_000;
 pub const OPERATIONS_LIMIT: usize = 1_000;
@@ -120,6 +123,17 @@ pub fn frame(case: &Case) -> Vec<u8> {
             frame.push(b'J');
             put_session(&mut frame, session, operations);
         }
+        Case::Store { space, window, room } => {
+            frame.push(b'K');
+            frame.extend(space.to_be_bytes());
+            put_bytes(&mut frame, window);
+            frame.extend(room.to_be_bytes());
+        }
+        Case::Restore { backup, room } => {
+            frame.push(b'R');
+            put_bytes(&mut frame, backup);
+            frame.extend(room.to_be_bytes());
+        }
         Case::Leaf(leaf) => put_leaf(&mut frame, leaf),
     }
     frame
@@ -171,9 +185,13 @@ impl<R: Read> Frames<R> {
         Ok(length)
     }
 
-    fn bytes(&mut self) -> Result<Vec<u8>, BadFrame> {
-        let length = self.length(BYTES_LIMIT)?;
+    fn bytes_up_to(&mut self, limit: usize) -> Result<Vec<u8>, BadFrame> {
+        let length = self.length(limit)?;
         self.take(length)
+    }
+
+    fn bytes(&mut self) -> Result<Vec<u8>, BadFrame> {
+        self.bytes_up_to(BYTES_LIMIT)
     }
 
     fn table(&mut self) -> Result<Vec<i64>, BadFrame> {
@@ -194,10 +212,10 @@ impl<R: Read> Frames<R> {
         })
     }
 
-    fn room(&mut self) -> Result<u64, BadFrame> {
+    fn room(&mut self, limit: u64) -> Result<u64, BadFrame> {
         let place = self.place;
         let room = self.number()?;
-        if room > ROOM_LIMIT {
+        if room > limit {
             return Err(BadFrame { place, why: "a room beyond its limit" });
         }
         Ok(room)
@@ -271,7 +289,7 @@ impl<R: Read> Frames<R> {
 
     fn case(&mut self, first: u8) -> Result<Case, BadFrame> {
         match first {
-            b'P' => Ok(Case::Plan { room: self.room()?, text: self.bytes()? }),
+            b'P' => Ok(Case::Plan { room: self.room(ROOM_LIMIT)?, text: self.bytes()? }),
             b'L' => Ok(Case::Locate { table: self.table()?, n: self.number()? }),
             b'I' => {
                 Ok(Case::WriteInteger { access: self.access()?, negative: self.sign()?, magnitude: self.number()? })
@@ -280,6 +298,8 @@ impl<R: Read> Frames<R> {
             b'S' => Ok(Case::WriteText { access: self.access()?, value: self.bytes()? }),
             b'G' => Ok(Case::Read { access: self.access()? }),
             b'J' => self.session(),
+            b'K' => Ok(Case::Store { space: self.number()?, window: self.bytes()?, room: self.room(OUTPUT_LIMIT)? }),
+            b'R' => Ok(Case::Restore { backup: self.bytes_up_to(BACKUP_LIMIT)?, room: self.room(OUTPUT_LIMIT)? }),
             b'Z' => Ok(Case::Leaf(Leaf::Ending(self.bytes()?))),
             b'U' => Ok(Case::Leaf(Leaf::Characters(self.bytes()?))),
             b'N' => Ok(Case::Leaf(Leaf::Number(self.bytes()?))),

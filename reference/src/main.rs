@@ -10,7 +10,7 @@ use reference::listing::listing;
 use reference::{answer, frame, line, Frames};
 
 const USAGE: &str =
-    "usage: reference answers | reference list | reference cases --seed S --count N --kind plan|locate|access|session|all|leaf [--small] [--stats]";
+    "usage: reference answers | reference list | reference cases --seed S --count N --kind plan|locate|access|session|backup|all|leaf [--small] [--stats]";
 
 /// Prints one line for each case of standard input.
 fn answers() -> io::Result<ExitCode> {
@@ -57,6 +57,7 @@ fn sort(word: &str) -> Option<Sort> {
         "locate" => Some(Sort::Locate),
         "access" => Some(Sort::Access),
         "session" => Some(Sort::Session),
+        "backup" => Some(Sort::Backup),
         "all" => Some(Sort::All),
         "leaf" => Some(Sort::Leaf),
         _ => None,
@@ -79,7 +80,7 @@ fn options(words: &[&str]) -> Option<Options> {
     Some(Options { seed: seed?, count: count?, sort: kind?, small, stats })
 }
 
-/// Writes the frames of a stream, or the shares of its answers and what its planning cases reach.
+/// Writes the frames of a stream, or the shares of its answers and what its cases reach.
 fn cases(options: &Options) -> io::Result<ExitCode> {
     let mut output = BufWriter::new(io::stdout().lock());
     let stream = Stream::new(options.seed, options.sort, options.small);

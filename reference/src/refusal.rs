@@ -34,7 +34,7 @@ pub fn refusal(number: u8, place: usize) -> Refusal {
     Refusal { place: place as u64, number }
 }
 
-/// A refusal whose place is 0, as for every number from 13 on that isn't one of 81 to 88.
+/// A refusal whose place is 0, as for every number from 13 on that isn't 43, 44 or one of 81 to 88.
 pub fn unplaced(number: u8) -> Refusal {
     Refusal { place: 0, number }
 }

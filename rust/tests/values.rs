@@ -97,7 +97,8 @@ fn kinds() {
     assert!(Kind::try_from(u64::MAX).is_err());
 }
 
-/// The table of refusals in the repository's README has the same numbers and words, in the same order. It marks words as code that are none here.
+/// The table of refusals in the repository's README has the same numbers and words, in the same order. It marks words as code that are none here. 40 to 44
+/// are those of the crate of backups.
 #[test]
 fn causes() {
     let readme = include_str!("../../README.md");
@@ -108,6 +109,7 @@ fn causes() {
             let number = cells.next()?.trim().parse().ok()?;
             Some((number, cells.next()?.trim().replace('`', "")))
         })
+        .filter(|(number, _)| !(40..=44).contains(number))
         .collect();
     let ours: Vec<(usize, String)> =
         Cause::ALL.iter().map(|cause| (cause.number(), cause.to_string().replace('`', ""))).collect();

@@ -21,6 +21,9 @@ pub enum Call {
     Write { file: OsString, number: u64, value: String, window: Memory },
     Edit { file: OsString, number: u64, value: String, window: Memory, journal: PathBuf },
     Undo { file: OsString, window: PathBuf, journal: PathBuf },
+    Store { window: PathBuf, backup: PathBuf, space: u64 },
+    Restore { backup: PathBuf, window: PathBuf },
+    Inspect { backup: PathBuf },
     Help(Option<Command>),
     Version,
 }
@@ -157,6 +160,19 @@ impl<'a> Words<'a> {
                 window: named(command, "--window", self.window)?,
                 journal: named(command, "--journal", self.journal)?,
             },
+            Command::Store => {
+                let Some(space) = self.space else { return wrong(Some(command), "store needs --space N".to_string()) };
+                Call::Store {
+                    window: named(command, "WINDOW", Some(words[0]))?,
+                    backup: named(command, "BACKUP", Some(words[1]))?,
+                    space: address(command, "--space", space)?,
+                }
+            }
+            Command::Restore => Call::Restore {
+                backup: named(command, "BACKUP", Some(words[0]))?,
+                window: named(command, "WINDOW", Some(words[1]))?,
+            },
+            Command::Inspect => Call::Inspect { backup: named(command, "BACKUP", Some(words[0]))? },
             Command::Help => Call::Help(command_of(words.first())?),
         })
     }
@@ -176,7 +192,7 @@ impl<'a> Words<'a> {
         let options = [
             ("--window", self.window, command.has_window(), "read, write, edit and undo"),
             ("--journal", self.journal, command.has_journal(), "edit and undo"),
-            ("--space", self.space, command.has_address(), "read, write and edit"),
+            ("--space", self.space, command.has_space(), "read, write, edit and store"),
             ("--first", self.first, command.has_address(), "read, write and edit"),
         ];
         match options.iter().find(|(_, value, takes, _)| value.is_some() && !takes) {
@@ -193,7 +209,7 @@ impl<'a> Words<'a> {
     }
 }
 
-/// The file that an option names.
+/// The file that an option or a word names.
 fn named(command: Command, option: &str, file: Option<&OsStr>) -> Result<PathBuf, Ending> {
     match file {
         None => wrong(Some(command), format!("{} needs {option} FILE", command.name())),

@@ -9,7 +9,8 @@ use crate::json::Object;
 use crate::output::Output;
 use crate::refused::{element, variable_object, Held, Refused};
 use crate::safe::shown;
-use crate::{lines, values, window_file};
+use crate::window_file::{self, WINDOW};
+use crate::{backups, lines, values};
 use planksling::{Description, Refusal, Value, Variable, Window};
 use std::ffi::OsStr;
 use std::io::Write;
@@ -22,17 +23,27 @@ pub fn run(call: &Call, json: bool, output: &mut Output) -> Result<(), Ending> {
         Call::Show { file, number } => show(&Setting::find(file, *number)?, json, output),
         Call::Read { file, number, window } => read(&Setting::find(file, *number)?, window, json, output),
         Call::Write { file, number, value, window } => {
-            are_others(Command::Write, file, &[("window", &window.file)])?;
+            are_others(Command::Write, &[("description", file.as_ref()), ("window", &window.file)])?;
             write(&Setting::find(file, *number)?, value, window, json, output)
         }
         Call::Edit { file, number, value, window, journal } => {
-            are_others(Command::Edit, file, &[("window", &window.file), ("journal", journal)])?;
+            let files = [("description", file.as_ref()), ("window", &*window.file), ("journal", journal)];
+            are_others(Command::Edit, &files)?;
             edits::edit(&Setting::find(file, *number)?, value, window, journal, json, output)
         }
         Call::Undo { file, window, journal } => {
-            are_others(Command::Undo, file, &[("window", window), ("journal", journal)])?;
+            are_others(Command::Undo, &[("description", file.as_ref()), ("window", window), ("journal", journal)])?;
             edits::undo(file, &Files { window, journal }, json, output)
         }
+        Call::Store { window, backup, space } => {
+            are_others(Command::Store, &[("window", window), ("backup", backup)])?;
+            backups::store(window, backup, *space, json, output)
+        }
+        Call::Restore { backup, window } => {
+            are_others(Command::Restore, &[("backup", backup), ("window", window)])?;
+            backups::restore(backup, window, json, output)
+        }
+        Call::Inspect { backup } => backups::inspect(backup, json, output),
         Call::Help(command) => output.text(&help::text(*command)),
         Call::Version => output.text(help::VERSION),
     }
@@ -71,7 +82,7 @@ fn check(file: &OsStr, json: bool, output: &mut Output) -> Result<(), Ending> {
 }
 
 /// So many of these.
-fn counted(count: u64, word: &str) -> String {
+pub fn counted(count: u64, word: &str) -> String {
     format!("{count} {word}{}", if count == 1 { "" } else { "s" })
 }
 
@@ -98,7 +109,7 @@ impl Setting {
     /// The window in a file, which is of the variable's own space if none is given.
     pub fn window(&self, memory: &Memory) -> Result<Window<Vec<u8>>, Ending> {
         let space = memory.space.unwrap_or(self.variable.space);
-        Ok(Window::new(space, memory.first.unwrap_or(0), window_file::read(&memory.file)?))
+        Ok(Window::new(space, memory.first.unwrap_or(0), window_file::read(&memory.file, &WINDOW)?))
     }
 
     fn refused(&self, window: &Window<Vec<u8>>, refusal: Refusal) -> Ending {
@@ -151,10 +162,9 @@ fn read(setting: &Setting, memory: &Memory, json: bool, output: &mut Output) -> 
     Ok(())
 }
 
-/// A slip of the hand would write a setting into the description itself, or the one file into the other.
-fn are_others(command: Command, description: &OsStr, files: &[(&str, &Path)]) -> Result<(), Ending> {
-    let description = Some(("description", Path::new(description))).filter(|(_, file)| *file != Path::new("-"));
-    let all: Vec<(&str, &Path)> = description.into_iter().chain(files.iter().copied()).collect();
+/// A slip of the hand would write a setting into the description itself, or the one file into the other. `-` is standard input.
+fn are_others(command: Command, files: &[(&str, &Path)]) -> Result<(), Ending> {
+    let all: Vec<_> = files.iter().filter(|(_, file)| *file != Path::new("-")).collect();
     for (i, (name, file)) in all.iter().enumerate() {
         if let Some((other, _)) = all[..i].iter().find(|(_, other)| window_file::is_same(file, other)) {
             return Err(Ending::WrongCall(format!("the {name} is the {other}'s own file"), Some(command)));

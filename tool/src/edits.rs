@@ -9,7 +9,7 @@ use crate::json::Object;
 use crate::output::Output;
 use crate::refused::{Held, Refused};
 use crate::values;
-use crate::window_file::{self, name};
+use crate::window_file::{self, name, WINDOW};
 use planksling::{Description, Refusal, Session};
 use std::ffi::OsStr;
 use std::io::Write;
@@ -117,7 +117,7 @@ pub fn edit(
 pub fn undo(file: &OsStr, files: &Files<'_>, json: bool, output: &mut Output) -> Result<(), Ending> {
     let file = DescriptionFile::read(file)?;
     let description = file.plan()?;
-    let old = window_file::read(files.window)?;
+    let old = window_file::read(files.window, &WINDOW)?;
     let journal = name(files.journal);
     let Some(kept) = JournalFile::read(files.journal)? else {
         return Err(Ending::NoFile(format!("{journal} can't be read: there is no such file")));

@@ -7,6 +7,8 @@ use std::io;
 pub enum Ending {
     /// The library refused.
     Refused(Box<Refused>),
+    /// A backup isn't good, and that was told on standard output.
+    BadBackup,
     /// The words of the call are wrong: why, and which command was meant, if that is known.
     WrongCall(String, Option<Command>),
     /// A file can't be read or written: which, and why.
@@ -21,7 +23,7 @@ impl Ending {
     pub fn status(&self) -> u8 {
         match self {
             Ending::ReaderGone => 0,
-            Ending::Refused(_) => Ending::REFUSED,
+            Ending::Refused(_) | Ending::BadBackup => Ending::REFUSED,
             Ending::WrongCall(..) => 2,
             Ending::NoFile(_) => 3,
         }
@@ -30,7 +32,7 @@ impl Ending {
     /// What is told on standard error.
     pub fn words(&self) -> String {
         match self {
-            Ending::ReaderGone => String::new(),
+            Ending::ReaderGone | Ending::BadBackup => String::new(),
             Ending::Refused(refused) => refused.plain(),
             Ending::WrongCall(why, command) => {
                 let meant =

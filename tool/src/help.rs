@@ -10,11 +10,14 @@ pub enum Command {
     Write,
     Edit,
     Undo,
+    Store,
+    Restore,
+    Inspect,
     Help,
 }
 
 impl Command {
-    const ALL: [Command; 8] = [
+    const ALL: [Command; 11] = [
         Command::List,
         Command::Check,
         Command::Show,
@@ -22,6 +25,9 @@ impl Command {
         Command::Write,
         Command::Edit,
         Command::Undo,
+        Command::Store,
+        Command::Restore,
+        Command::Inspect,
         Command::Help,
     ];
 
@@ -39,6 +45,9 @@ impl Command {
             Command::Write => "write",
             Command::Edit => "edit",
             Command::Undo => "undo",
+            Command::Store => "store",
+            Command::Restore => "restore",
+            Command::Inspect => "inspect",
             Command::Help => "help",
         }
     }
@@ -49,11 +58,14 @@ impl Command {
             Command::List | Command::Check | Command::Undo => &["FILE"],
             Command::Show | Command::Read => &["FILE", "N"],
             Command::Write | Command::Edit => &["FILE", "N", "VALUE"],
+            Command::Store => &["WINDOW", "BACKUP"],
+            Command::Restore => &["BACKUP", "WINDOW"],
+            Command::Inspect => &["BACKUP"],
             Command::Help => &[],
         }
     }
 
-    /// Does it work on a window?
+    /// Does it work on a window that an option names?
     pub fn has_window(self) -> bool {
         matches!(self, Command::Read | Command::Write) || self.has_journal()
     }
@@ -63,9 +75,14 @@ impl Command {
         matches!(self, Command::Edit | Command::Undo)
     }
 
-    /// Is it told which part of the node's memory the window is? To take an edit back, its journal tells that.
+    /// Is it told at which address the window begins? To take an edit back, its journal tells that.
     pub fn has_address(self) -> bool {
         self.has_window() && self != Command::Undo
+    }
+
+    /// Is it told of which space the window is?
+    pub fn has_space(self) -> bool {
+        self.has_address() || self == Command::Store
     }
 
     pub fn usage(self) -> &'static str {
@@ -79,6 +96,9 @@ impl Command {
                 "planksling edit FILE N VALUE --window FILE --journal FILE [--space N] [--first N] [--json]"
             }
             Command::Undo => "planksling undo FILE --window FILE --journal FILE [--json]",
+            Command::Store => "planksling store WINDOW BACKUP --space N [--json]",
+            Command::Restore => "planksling restore BACKUP WINDOW [--json]",
+            Command::Inspect => "planksling inspect BACKUP [--json]",
             Command::Help => "planksling help [COMMAND]",
         }
     }
@@ -92,6 +112,9 @@ impl Command {
             Command::Write => WRITE,
             Command::Edit => EDIT,
             Command::Undo => UNDO,
+            Command::Store => STORE,
+            Command::Restore => RESTORE,
+            Command::Inspect => INSPECT,
             Command::Help => HELP,
         }
     }
@@ -106,6 +129,7 @@ pub fn text(command: Option<Command>) -> String {
                 Command::Read | Command::Write => [WINDOW, ADDRESS].concat(),
                 Command::Edit => [WINDOW, JOURNAL, ADDRESS].concat(),
                 Command::Undo => [WINDOW, JOURNAL].concat(),
+                Command::Store => SPACE.to_string(),
                 _ => return format!("{}\n\n{}", command.usage(), command.about()),
             };
             format!("{}\n\n{}\n{options}", command.usage(), command.about())
@@ -117,8 +141,8 @@ pub const VERSION: &str = concat!("planksling ", env!("CARGO_PKG_VERSION"), "\n"
 
 const ALL: &str = "\
 planksling lists, checks, reads and writes the settings (variables) of an
-OpenLCB node by the node's description (CDI), takes edits back, and explains
-what is refused.
+OpenLCB node by the node's description (CDI), takes edits back, keeps backups,
+and explains what is refused.
 
   planksling list FILE              where each variable lives
   planksling check FILE             is the description accepted?
@@ -127,12 +151,16 @@ what is refused.
   planksling write FILE N VALUE     gives it another value in a window
   planksling edit FILE N VALUE      the same, so that it can be taken back
   planksling undo FILE              takes the latest edit back
+  planksling store WINDOW BACKUP    stores a window as a backup, in blocks
+  planksling restore BACKUP WINDOW  gives the stored window back
+  planksling inspect BACKUP         which blocks of a backup are good?
   planksling help [COMMAND]         this, or more on a command
 
   --json          answers and refusals as JSON, for programs
   --window FILE   for read, write, edit, undo: the node's memory, in a file
   --journal FILE  for edit and undo: what the edits replaced, in a file
-  --space N       the space of that memory (the variable's own, if not given)
+  --space N       the space of that memory (the variable's own, if not given);
+                  for store, which needs it, that of the window
   --first N       the address of its first byte (0, if not given)
   --              ends the options, for a value that begins with -
   --version       the tool's version
@@ -196,11 +224,41 @@ Where something else has written to the window since the last edit, that is
 told, and nothing is changed.
 ";
 
+const STORE: &str = "\
+Stores the bytes of the file WINDOW, of this space of the node's memory, in
+blocks of 512 bytes in the file BACKUP. Each block has a number and a check, so
+that any change of a single byte is noticed. The address of the window's first
+byte isn't stored.
+
+BACKUP is made, or replaced as a whole where it is a good backup or empty. Any
+other file is left as it is, and so is a backup of the same bytes.
+";
+
+const RESTORE: &str = "\
+Reads the file BACKUP, and writes the bytes that were stored to the file WINDOW.
+A backup that has a bad block is refused with the first one and its cause.
+
+WINDOW is made, or replaced as a whole where it has as many bytes or is empty.
+Any other file is left as it is, and so is one that has these bytes already.
+";
+
+const INSPECT: &str = "\
+Tells whether the backup is good, or its first bad block and the cause; then a
+line for each block, behind a bad one too, with its number and its length as
+they stand there, and good or what is wrong with it; then how many blocks are
+good, and how many of the window's bytes these have. All of it goes to standard
+output. The status is 0 for a good backup, else 1.
+";
+
 const HELP: &str = "\
 Tells what a command does; without COMMAND, what there is.
 ";
 
 const WINDOW: &str = "  --window FILE   bytes of one space of the node's memory, at most 64 MiB
+";
+
+const SPACE: &str = "  --space N       the space that the window's bytes are of, 0 to 255, decimal or
+                  hexadecimal with 0x in front
 ";
 
 const JOURNAL: &str = "  --journal FILE  what the edits of this window replaced

@@ -1,9 +1,10 @@
 //! `planksling`: the library as a tool for people. It lists, checks and shows what a description has, reads and writes settings in a window that is
-//! kept in a file, takes edits back, and explains what is refused. The answers are the library's; here they are only asked for and told.
+//! kept in a file, takes edits back, keeps backups, and explains what is refused. The answers are the libraries'; here they are only asked for and told.
 
 #![forbid(unsafe_code)]
 
 mod arguments;
+mod backups;
 mod commands;
 mod description_file;
 mod edits;
@@ -15,6 +16,7 @@ mod lines;
 mod output;
 mod place;
 mod refused;
+mod report;
 mod safe;
 mod values;
 mod window_file;

@@ -1,11 +1,12 @@
-//! A refusal as a person wants it: file, line and column, the rule, the line itself with a mark under the place, what is wrong and what would mend it.
+//! A refusal as a person wants it: file, line and column or block, the rule, the line itself with a mark under the place, what is wrong and what would
+//! mend it.
 
 use crate::description_file::DescriptionFile;
 use crate::json::Object;
 use crate::place::Spot;
 use crate::safe::shown;
 use crate::values;
-use crate::words::words;
+use crate::words::Rule;
 use planksling::{Cause, Description, Refusal, Session, Variable, Window};
 
 /// How many columns the words take at most.
@@ -22,11 +23,14 @@ const ENTRY_HEAD: usize = 8;
 
 /// A refusal and all that is told of it.
 pub struct Refused {
-    refusal: Refusal,
+    rule: Rule,
     file: String,
-    /// The place in the text; for a refusal that has none that of the variable's element, where there is a variable.
+    /// The place in the text, if it has one.
+    place: Option<usize>,
+    /// That place as it is shown; for a refusal that has none that of the variable's element, where there is a variable.
     spot: Option<Spot>,
-    is_in_text: bool,
+    /// The position of the block, for a backup with a bad one.
+    block: Option<usize>,
     variable: Option<Variable>,
     window: Option<Held>,
     /// What can be said beyond the words of the rule.
@@ -43,9 +47,9 @@ pub struct Held {
 
 impl Refused {
     /// A refusal of which nothing else is told.
-    fn new(file: &DescriptionFile, refusal: Refusal) -> Refused {
-        let file = file.name.clone();
-        Refused { refusal, file, spot: None, is_in_text: false, variable: None, window: None, notes: vec![] }
+    fn new(file: &str, rule: impl Into<Rule>) -> Refused {
+        let (rule, file) = (rule.into(), file.to_string());
+        Refused { rule, file, place: None, spot: None, block: None, variable: None, window: None, notes: vec![] }
     }
 
     /// A text that was refused.
@@ -54,7 +58,7 @@ impl Refused {
         let is_end = refusal.place == content.len();
         let spot = if is_end { Spot::end(content) } else { Spot::new(content, refusal.place) };
         let notes = text_note(file, refusal).into_iter().collect();
-        Refused { spot: Some(spot), is_in_text: true, notes, ..Refused::new(file, refusal) }
+        Refused { place: Some(refusal.place), spot: Some(spot), notes, ..Refused::new(&file.name, refusal.cause) }
     }
 
     /// A number that no variable of the description has.
@@ -64,7 +68,7 @@ impl Refused {
             1 => "The description has one variable, 0.".to_string(),
             count => format!("The description has {count} variables, 0 to {}.", count - 1),
         };
-        Refused { notes: vec![note], ..Refused::new(file, refusal) }
+        Refused { notes: vec![note], ..Refused::new(&file.name, refusal.cause) }
     }
 
     /// A variable that can't be read or written so.
@@ -84,12 +88,12 @@ impl Refused {
         let own = format!("Variable {}: {}.", variable.number, lives(&variable));
         let notes = std::iter::once(own).chain(notes).collect();
         let (spot, variable, window) = (Some(spot), Some(variable), Some(window));
-        Refused { spot, variable, window, notes, ..Refused::new(file, refusal) }
+        Refused { spot, variable, window, notes, ..Refused::new(&file.name, refusal.cause) }
     }
 
     /// The same, where so many edits stand.
     pub fn beside_edits(mut self, standing: u64) -> Refused {
-        if let (Cause::JournalFull, Some(variable)) = (self.refusal.cause, &self.variable) {
+        if let Some(variable) = self.variable.filter(|_| self.rule.number == Cause::JournalFull.number()) {
             let bytes = ENTRY_HEAD + variable.size;
             self.notes.push(format!("Edits that stand: {standing}. This one needs {bytes} bytes of the journal."));
         }
@@ -106,18 +110,31 @@ impl Refused {
             }
             _ => vec![],
         };
-        Refused { window: Some(Held::of(session.window())), notes, ..Refused::new(file, refusal) }
+        Refused { window: Some(Held::of(session.window())), notes, ..Refused::new(&file.name, refusal.cause) }
+    }
+
+    /// A window that can't be stored, or a backup that can't be read, with the bad block where the refusal is about one.
+    pub fn of_a_backup(
+        file: &str,
+        cause: planksling_backup::Cause,
+        block: Option<usize>,
+        notes: Vec<String>,
+    ) -> Refused {
+        Refused { block, notes, ..Refused::new(file, cause) }
     }
 
     /// For a person, in lines.
     pub fn plain(&self) -> String {
-        let cause = self.refusal.cause;
-        let at = self.spot.as_ref().map_or_else(String::new, |spot| format!(":{}:{}", spot.line, spot.column));
-        let mut told = format!("{}{at}: refused {}: {cause}\n", shown(&self.file), cause.number());
+        let Rule { number, rule, what, mend } = self.rule;
+        let at = match (&self.spot, self.block) {
+            (Some(spot), _) => format!(":{}:{}", spot.line, spot.column),
+            (None, Some(block)) => format!(": block {block}"),
+            (None, None) => String::new(),
+        };
+        let mut told = format!("{}{at}: refused {number}: {rule}\n", shown(&self.file));
         if let Some(spot) = &self.spot {
             told.push_str(&spot.lines(INDENT));
         }
-        let (what, mend) = words(cause);
         for paragraph in [what, mend].into_iter().chain(self.notes.iter().map(String::as_str)) {
             told.push_str(&wrapped(paragraph));
         }
@@ -126,12 +143,13 @@ impl Refused {
 
     /// The same for a program, in one line.
     pub fn json(&self) -> String {
-        let cause = self.refusal.cause;
-        let (what, mend) = words(cause);
-        let object = Object::new().plain("refused", cause.number()).text("rule", cause.words());
-        let mut object = object.text("file", &self.file);
-        if self.is_in_text {
-            object = object.plain("place", self.refusal.place);
+        let Rule { number, rule, what, mend } = self.rule;
+        let mut object = Object::new().plain("refused", number).text("rule", rule).text("file", &self.file);
+        if let Some(place) = self.place {
+            object = object.plain("place", place);
+        }
+        if let Some(block) = self.block {
+            object = object.plain("block", block);
         }
         if let Some(spot) = &self.spot {
             object = object.plain("line", spot.line).plain("column", spot.column);

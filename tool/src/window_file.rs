@@ -1,17 +1,27 @@
-//! The file that holds a window: one space of a node's memory, from some address on.
+//! The file that holds a window: one space of a node's memory, from some address on. Backups are kept in the same way.
 //!
 //! It is replaced as a whole or not at all. The new bytes go into a file beside it, and only when they are on the disk that file takes the name; so a
 //! crash leaves the old bytes or the new ones under it.
 
 use crate::ending::{reason, Ending};
 use crate::safe::shown;
+use planksling_backup::room;
 use std::fs::{self, File, Metadata, OpenOptions};
 use std::io::{self, Read, Write};
 use std::os::unix::fs::{fchown, MetadataExt, OpenOptionsExt};
 use std::path::{Path, PathBuf};
 
-/// A larger window isn't read.
-const MOST: u64 = 64 << 20;
+/// The most bytes of a file; a larger one isn't read.
+pub struct Most {
+    bytes: u64,
+    words: &'static str,
+}
+
+pub const WINDOW: Most = Most { bytes: 64 << 20, words: "64 MiB, which is the most for a window" };
+
+/// The backup of such a window.
+pub const BACKUP: Most =
+    Most { bytes: room(64 << 20) as u64, words: "68,445,696 bytes, which is the most for a backup" };
 
 /// How many names are tried for the file beside.
 const TRIES: u32 = 100;
@@ -21,16 +31,23 @@ pub fn name(file: &Path) -> String {
     shown(&file.to_string_lossy())
 }
 
-/// The bytes of a window's file.
-pub fn read(file: &Path) -> Result<Vec<u8>, Ending> {
+/// The bytes of a file.
+pub fn read(file: &Path, most: &Most) -> Result<Vec<u8>, Ending> {
+    let bytes = read_if_there(file, most)?;
+    bytes.ok_or_else(|| Ending::unreadable(&name(file), &io::ErrorKind::NotFound.into()))
+}
+
+/// The bytes of a file, if there is the file.
+pub fn read_if_there(file: &Path, most: &Most) -> Result<Option<Vec<u8>>, Ending> {
     let mut bytes = vec![];
-    let read = File::open(file).and_then(|open| open.take(MOST + 1).read_to_end(&mut bytes));
+    let read = File::open(file).and_then(|open| open.take(most.bytes + 1).read_to_end(&mut bytes));
     match read {
+        Err(error) if error.kind() == io::ErrorKind::NotFound => Ok(None),
         Err(error) => Err(Ending::unreadable(&name(file), &error)),
-        Ok(length) if MOST < length as u64 => {
-            Err(Ending::NoFile(format!("{} has more than 64 MiB, which is the most for a window", name(file))))
+        Ok(length) if most.bytes < length as u64 => {
+            Err(Ending::NoFile(format!("{} has more than {}", name(file), most.words)))
         }
-        Ok(_) => Ok(bytes),
+        Ok(_) => Ok(Some(bytes)),
     }
 }
 

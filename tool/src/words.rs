@@ -1,9 +1,34 @@
 //! Refusals in words, as README.md has them under "In words": what is wrong, and what would mend it. "Here" is the place that is told.
 
 use planksling::Cause;
+use planksling_backup::Cause as OfBackups;
+
+/// A rule that was not kept, as it is told.
+#[derive(Clone, Copy)]
+pub struct Rule {
+    pub number: usize,
+    /// The rule in a few words.
+    pub rule: &'static str,
+    pub what: &'static str,
+    pub mend: &'static str,
+}
+
+impl From<Cause> for Rule {
+    fn from(cause: Cause) -> Rule {
+        let (what, mend) = words(cause);
+        Rule { number: cause.number(), rule: cause.words(), what, mend }
+    }
+}
+
+impl From<OfBackups> for Rule {
+    fn from(cause: OfBackups) -> Rule {
+        let (what, mend) = backup_words(cause);
+        Rule { number: cause.number(), rule: cause.words(), what, mend }
+    }
+}
 
 /// What is wrong, and what would mend it.
-pub fn words(cause: Cause) -> (&'static str, &'static str) {
+fn words(cause: Cause) -> (&'static str, &'static str) {
     match cause {
         Cause::NoEnd => (
             "The text isn't closed by a zero byte, or that byte comes too late.",
@@ -147,9 +172,38 @@ pub fn words(cause: Cause) -> (&'static str, &'static str) {
     }
 }
 
+/// The same of a backup.
+fn backup_words(cause: OfBackups) -> (&'static str, &'static str) {
+    match cause {
+        OfBackups::NotStorable => (
+            "This window can't be stored: it is empty, has more than 2^32 bytes, or its space is above 255.",
+            "Hand over at least one byte, and the number of the space that the bytes are of.",
+        ),
+        OfBackups::NoRoom => (
+            "The lent output is too small.",
+            "To store a window lend 512 bytes for each 502 of it, rounded up; to read a backup lend as many bytes as its \
+             window has.",
+        ),
+        OfBackups::NotWhole => (
+            "This is no row of whole blocks: it is empty, or its length is no multiple of 512.",
+            "It was cut off, something was put behind it, or it is no backup. Take another copy of it.",
+        ),
+        OfBackups::BadCheck => (
+            "The bytes of this block are not those that were stored: its check doesn't fit them.",
+            "Take another copy of the backup; the other blocks may be good.",
+        ),
+        OfBackups::BadField => (
+            "This block is not the one that belongs here: its number, space, length, flag or padding is another.",
+            "Blocks are missing, stand at other places or are of another backup. Take a whole copy of the backup.",
+        ),
+        // a cause of a later library
+        _ => (cause.words(), ""),
+    }
+}
+
 #[cfg(test)]
 mod tests {
-    use super::words;
+    use super::{OfBackups, Rule};
     use planksling::Cause;
     use std::collections::BTreeMap;
 
@@ -169,10 +223,11 @@ mod tests {
     #[test]
     fn words_of_the_page() {
         let page = page();
-        assert_eq!(page.len(), Cause::ALL.len());
-        for &cause in Cause::ALL {
-            let (what, mend) = words(cause);
-            assert_eq!(page[&cause.number()], format!("{what} {mend}"));
+        let rules = Cause::ALL.iter().map(|&cause| Rule::from(cause));
+        let rules: Vec<Rule> = rules.chain(OfBackups::ALL.iter().map(|&cause| Rule::from(cause))).collect();
+        assert_eq!(page.len(), rules.len());
+        for Rule { number, what, mend, .. } in rules {
+            assert_eq!(page[&number], format!("{what} {mend}"));
         }
     }
 }

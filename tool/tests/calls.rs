@@ -72,9 +72,11 @@ fn help() {
         let told = folder.run_line(line);
         assert!(told.status == 0 && told.err.is_empty() && told.out.contains("planksling write FILE N VALUE"));
     }
-    for command in ["list", "check", "show", "read", "write", "edit", "undo", "help"] {
+    let commands = ["list", "check", "show", "read", "write", "edit", "undo", "store", "restore", "inspect", "help"];
+    for command in commands {
         let told = folder.run(&["help", command]);
         assert!(told.status == 0 && told.out.starts_with(&format!("planksling {command} ")), "{told:?}");
+        assert!(told.out.lines().skip(1).all(|line| line.chars().count() <= 80), "{command}");
         assert_eq!(folder.run(&[command, "--help"]), told);
         assert_eq!(folder.run(&["-h", command]), told);
     }
@@ -130,13 +132,38 @@ fn wrong_calls() {
         ("undo a --window w", "undo needs --journal FILE"),
         ("undo a --journal j", "undo needs --window FILE"),
         ("undo a 0 --window w --journal j", "`0` is a word too many"),
-        ("undo a --window w --journal j --space 1", "--space is for read, write and edit"),
+        ("undo a --window w --journal j --space 1", "--space is for read, write, edit and store"),
         ("undo a --window w --journal j --first 1", "--first is for read, write and edit"),
         ("write a 0 1 --window w --journal j", "--journal is for edit and undo"),
         ("list a --journal j", "--journal is for edit and undo"),
         ("list a --window w", "--window is for read, write, edit and undo"),
-        ("check a --space 1", "--space is for read, write and edit"),
+        ("check a --space 1", "--space is for read, write, edit and store"),
         ("show a 0 --first 1", "--first is for read, write and edit"),
+        ("store", "store needs WINDOW"),
+        ("store w", "store needs BACKUP"),
+        ("store w b", "store needs --space N"),
+        ("store w b --space", "--space needs a value behind it"),
+        ("store w b --space x", "--space needs a number, as 128 or 0x80, and `x` is none"),
+        ("store w b --space -1", "--space needs a number"),
+        ("store w b c --space 1", "`c` is a word too many"),
+        ("store - b --space 1", "WINDOW needs the name of a file"),
+        ("store w - --space 1", "BACKUP needs the name of a file"),
+        ("store w b --space 1 --first 0", "--first is for read, write and edit"),
+        ("store b --window w --space 1", "store needs BACKUP"),
+        ("store w b --window w --space 1", "--window is for read, write, edit and undo"),
+        ("store w w --space 1", "the backup is the window's own file"),
+        ("store w ./w --space 1", "the backup is the window's own file"),
+        ("restore", "restore needs BACKUP"),
+        ("restore b", "restore needs WINDOW"),
+        ("restore - w", "BACKUP needs the name of a file"),
+        ("restore b -", "WINDOW needs the name of a file"),
+        ("restore b w --space 1", "--space is for read, write, edit and store"),
+        ("restore w w", "the window is the backup's own file"),
+        ("inspect", "inspect needs BACKUP"),
+        ("inspect -", "BACKUP needs the name of a file"),
+        ("inspect w w", "`w` is a word too many"),
+        ("inspect w --space 1", "--space is for read, write, edit and store"),
+        ("inspect w --journal j", "--journal is for edit and undo"),
         ("list a --jsn", "there is no option `--jsn`"),
         ("list a --json=yes", "there is no option `--json=yes`"),
         ("-x", "there is no option `-x`"),

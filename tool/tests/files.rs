@@ -33,6 +33,10 @@ fn no_file() {
         folder.run_line(words).failed(3, "planksling: a can't be read: there is no such file\n");
         folder.run_line(&format!("{words} --json")).failed(3, "there is no such file");
     }
+    for words in ["store a b --space 1", "restore a b", "inspect a"] {
+        folder.run_line(words).failed(3, "planksling: a can't be read: there is no such file\n");
+        folder.run_line(&format!("{words} --json")).failed(3, "there is no such file");
+    }
     folder.run(&["list", ""]).failed(3, " can't be read: there is no such file");
     folder.run(&["list", "a/b"]).failed(3, "a/b can't be read: there is no such file");
     folder.run(&["list", "w/b"]).failed(3, "w/b can't be read: not a directory");

@@ -3,6 +3,7 @@
 mod tool;
 
 use planksling::{Cause, Description, Refusal};
+use planksling_backup::Cause as OfBackups;
 use std::collections::BTreeSet;
 use std::fs;
 use std::path::PathBuf;
@@ -11,6 +12,9 @@ use tool::{segment, Folder, Told, ROOT, SAMPLES};
 
 /// The one description of samples/refusals that is accepted.
 const ACCEPTED: &str = "settings";
+
+/// The one backup there that is good.
+const GOOD: &str = "good";
 
 fn refusals() -> PathBuf {
     PathBuf::from(SAMPLES).join("refusals")
@@ -57,9 +61,10 @@ fn holds(name: &str, told: &Told, json: &Told) {
     assert_eq!(json.out, stored(&format!("{name}.json")), "{name}.json");
     let object = Json::read(&json.out);
     assert_eq!(object.number("refused"), number(name) as u64);
-    let at = match object.has("line") {
-        true => format!(":{}:{}", object.number("line"), object.number("column")),
-        false => String::new(),
+    let at = match (object.has("line"), object.has("block")) {
+        (true, _) => format!(":{}:{}", object.number("line"), object.number("column")),
+        (_, true) => format!(": block {}", object.number("block")),
+        _ => String::new(),
     };
     let head = format!("{}{at}: refused {}: {}\n", object.text("file"), number(name), object.text("rule"));
     assert!(told.err.starts_with(&head), "{name}: {head}");
@@ -97,24 +102,51 @@ fn refused_descriptions() {
 fn refused_calls() {
     let folder = folder();
     let files: Vec<String> = folder.names();
-    let kept = files.iter().filter(|name| name.ends_with(".window") || name.ends_with(".journal"));
+    let kept = files.iter().filter(|name| [".window", ".journal", ".backup"].iter().any(|end| name.ends_with(end)));
     let state = || kept.clone().map(|name| folder.state(name)).collect::<Vec<_>>();
     for name in names(".args") {
         let line = stored(&format!("{name}.args"));
         let before = state();
         holds(&name, &folder.run_line(&line), &folder.run_line(&format!("{line} --json")));
-        assert!(before == state(), "{name} touched a window or a journal");
+        assert!(before == state(), "{name} touched a window, a journal or a backup");
     }
     assert_eq!(folder.names(), files);
 }
 
-/// There is a sample of each refusal that the tool can tell. 13 and 20 it can't: it lends a table that has room, and hands over the one it planned.
+/// Of each backup the tool reports what is stored, in words and as JSON, and begins with what it says when giving the window back.
+#[test]
+fn inspected_backups() {
+    let folder = folder();
+    let backups = names(".backup");
+    assert_eq!(backups, names(".report"));
+    assert_eq!(backups, names(".report.json"));
+    for name in backups {
+        let file = format!("{name}.backup");
+        let (told, json) = (folder.run(&["inspect", &file]), folder.run(&["inspect", &file, "--json"]));
+        let status = i32::from(name != GOOD);
+        assert_eq!((told.status, &told.err[..], json.status, &json.err[..]), (status, "", status, ""), "{name}");
+        assert_eq!(told.out, stored(&format!("{name}.report")), "{name}.report");
+        assert_eq!(json.out, stored(&format!("{name}.report.json")), "{name}.report.json");
+        if name != GOOD {
+            let refusal = stored(&format!("{name}.told"));
+            let (refusal, _) = refusal.split_once("`planksling inspect`").expect("a word on inspecting");
+            assert!(told.out.starts_with(refusal), "{name}");
+            let first = Json::read(json.out.split_inclusive('\n').next().expect("a line"));
+            assert_eq!(first.number("refused"), number(&name) as u64);
+        }
+    }
+    folder.run_line("restore good.backup new.window").printed("new.window: restored, 1100 bytes of space 253\n");
+    assert_eq!(folder.bytes("new.window"), folder.bytes("good.window"));
+}
+
+/// There is a sample of each refusal that the tool can tell. 13, 20 and 41 it can't: it lends room, and hands over the table it planned.
 #[test]
 fn every_refusal() {
     let told: BTreeSet<usize> = names(".told").iter().map(|name| number(name)).collect();
-    let all: BTreeSet<usize> = Cause::ALL.iter().map(|cause| cause.number()).collect();
-    let never = BTreeSet::from([Cause::TableTooShort.number(), Cause::NotAPlan.number()]);
-    assert_eq!(told, all.difference(&never).copied().collect());
+    let all = Cause::ALL.iter().map(|cause| cause.number());
+    let all: BTreeSet<usize> = all.chain(OfBackups::ALL.iter().map(|cause| cause.number())).collect();
+    let never = [Cause::TableTooShort.number(), Cause::NotAPlan.number(), OfBackups::NoRoom.number()];
+    assert_eq!(told, all.difference(&BTreeSet::from(never)).copied().collect());
 }
 
 /// What the library itself says of a file's bytes, with a zero behind them.

@@ -50,6 +50,12 @@ fn next(
     if first == b'J' {
         return sessions::frame(text, table, window, value, out, at);
     }
+    if first == b'K' {
+        return answers_backups::frame_store(window, out, at);
+    }
+    if first == b'R' {
+        return answers_backups::frame_read(out, at);
+    }
     if is_access(first) {
         return accesses::frame(first, text, table, window, value, out, at);
     }

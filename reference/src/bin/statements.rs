@@ -129,7 +129,9 @@ fn question(case: &Case, text: &str) -> (Vec<u8>, String) {
         Case::WriteText { access, value } => {
             (access.text.clone(), format!("writes {text} {} (string {})", accessed(access), bytes(value)))
         }
-        Case::Leaf(_) | Case::Session { .. } => unreachable!("single readings and sessions are refused before"),
+        Case::Leaf(_) | Case::Session { .. } | Case::Store { .. } | Case::Restore { .. } => {
+            unreachable!("single readings, sessions and backups are refused before")
+        }
         Case::Read { access } => (access.text.clone(), format!("read {text} {}", accessed(access))),
     }
 }
@@ -149,9 +151,11 @@ fn told(answer: &Answer) -> String {
         Answer::WriteRefused { refusal, window } => format!("({}, {})", refused(refusal), bytes(window)),
         Answer::Integer { value, accepted } => reading(&format!("integer ({})", whole(*value)), *accepted),
         Answer::Event { value, accepted } => reading(&format!("event {value}"), *accepted),
-        Answer::Leaf { .. } | Answer::Session { .. } => {
-            unreachable!("single readings and sessions are refused before")
-        }
+        Answer::Leaf { .. }
+        | Answer::Session { .. }
+        | Answer::Stored { .. }
+        | Answer::Restored { .. }
+        | Answer::BackupRefused { .. } => unreachable!("single readings, sessions and backups are refused before"),
         Answer::Text { bytes: value, accepted } => reading(&format!("string {}", bytes(value)), *accepted),
     }
 }
@@ -164,6 +168,11 @@ fn statement(index: usize, case: &Case) -> String {
         "\n{name} : List ℕ\n{name} = {}\n\ncase-{index} : {asked} ≡ {told}\nunfolding asked {name}\ncase-{index} = refl\n",
         bytes(&text)
     )
+}
+
+/// Whether nothing is stated about a case.
+fn is_refused(case: &Case) -> bool {
+    matches!(case, Case::Leaf(_) | Case::Session { .. } | Case::Store { .. } | Case::Restore { .. })
 }
 
 /// Writes the crate of statements.
@@ -199,8 +208,8 @@ fn main() -> ExitCode {
             return ExitCode::from(1);
         }
     };
-    if cases.iter().any(|case| matches!(case, Case::Leaf(_) | Case::Session { .. })) {
-        eprintln!("a frame of a single reading or of a session, about which nothing is stated");
+    if cases.iter().any(is_refused) {
+        eprintln!("a frame of a single reading, a session or a backup, about which nothing is stated");
         return ExitCode::from(1);
     }
     if let Err(error) = put(Path::new(folder), &cases) {

@@ -2,6 +2,7 @@
 //! Case number i depends on the seed and on i alone.
 
 pub mod accesses;
+pub mod backups;
 pub mod boundaries;
 pub mod damage;
 pub mod describe;
@@ -29,9 +30,11 @@ pub enum Sort {
     Plan,
     Locate,
     Access,
-    /// Plans, tables, writes and reads in turn; no sessions, about which the definitions that compute such cases state nothing.
+    /// Plans, tables, writes and reads in turn; no sessions or backups, about which the definitions that compute such cases state nothing.
     All,
     Session,
+    /// Storing and reading back.
+    Backup,
     Leaf,
 }
 
@@ -52,6 +55,7 @@ pub struct Stream {
     locate: Vec<Case>,
     access: Vec<Case>,
     session: Vec<Case>,
+    backup: Vec<Case>,
 }
 
 impl Stream {
@@ -78,6 +82,7 @@ impl Stream {
             locate: of(Sort::Locate, boundaries::of_locate),
             access: of(Sort::Access, boundaries::of_access),
             session: if sort == Sort::Session { boundaries::of_session() } else { Vec::new() },
+            backup: if sort == Sort::Backup { boundaries::of_backup() } else { Vec::new() },
         }
     }
 
@@ -99,6 +104,7 @@ impl Stream {
             Sort::Plan => &self.plan,
             Sort::Locate => &self.locate,
             Sort::Session => &self.session,
+            Sort::Backup => &self.backup,
             _ => &self.access,
         };
         if turn % BOUNDARY_EVERY == BOUNDARY_EVERY - 1 && !fixed.is_empty() {
@@ -113,6 +119,7 @@ impl Stream {
                 Sort::Plan => plan_case(random, self.small),
                 Sort::Locate => locate_case(random, self.small),
                 Sort::Session => sessions::session_case(random),
+                Sort::Backup => backups::backup_case(random),
                 _ => accesses::access_case(random, self.measure(), !self.small),
             };
             if !self.small || is_small(&case) {
@@ -245,7 +252,7 @@ fn access_is_small(access: &Access) -> bool {
     text_is_small(&access.text) && table_is_small(&access.table) && access.window.len() <= SMALL_BYTES
 }
 
-/// Whether a case is short and its full walk is small; sessions and single readings are of one measure only.
+/// Whether a case is short and its full walk is small; sessions, backups and single readings are of one measure only.
 pub fn is_small(case: &Case) -> bool {
     match case {
         Case::Plan { text, .. } => text_is_small(text),
@@ -254,6 +261,6 @@ pub fn is_small(case: &Case) -> bool {
             access_is_small(access)
         }
         Case::WriteText { access, value } => access_is_small(access) && value.len() <= SMALL_BYTES,
-        Case::Session { .. } | Case::Leaf(_) => true,
+        Case::Session { .. } | Case::Store { .. } | Case::Restore { .. } | Case::Leaf(_) => true,
     }
 }

@@ -9,6 +9,7 @@ use crate::session::Operation;
 pub fn refusal_of(answer: &Answer) -> Option<Refusal> {
     match answer {
         Answer::PlanRefused { refusal, .. } | Answer::WriteRefused { refusal, .. } => Some(*refusal),
+        Answer::BackupRefused { refusal, .. } => Some(*refusal),
         Answer::LocateRefused { refusal } | Answer::ReadRefused { refusal } => Some(*refusal),
         _ => None,
     }
@@ -29,6 +30,8 @@ pub fn label(answer: &Answer) -> String {
         Answer::Integer { .. } => "integer",
         Answer::Event { .. } => "event",
         Answer::Session { .. } => "session",
+        Answer::Stored { .. } => "stored",
+        Answer::Restored { .. } => "restored",
         _ => "text",
     };
     word.to_string()
@@ -39,6 +42,8 @@ pub fn kind_of(case: &Case) -> &'static str {
         Case::Plan { .. } => "plan",
         Case::Locate { .. } => "locate",
         Case::Session { .. } => "session",
+        Case::Store { .. } => "store",
+        Case::Restore { .. } => "restore",
         Case::Leaf(_) => "leaf",
         _ => "access",
     }

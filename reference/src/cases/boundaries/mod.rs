@@ -1,6 +1,7 @@
-//! Fixed cases at every boundary of document 01 and of requests, cycled through by every stream.
+//! Fixed cases at every boundary of document 01 and of requests, cycled through by every stream.
 
 mod accesses;
+mod backups;
 mod causes;
 mod plans;
 mod sessions;
@@ -8,6 +9,7 @@ mod spellings;
 mod tables;
 
 pub use accesses::of_access;
+pub use backups::{of_backup, sample};
 pub use plans::of_plan;
 pub use sessions::of_session;
 pub use tables::of_locate;

@@ -1,8 +1,9 @@
 //! How often a stream of planning cases reaches what a planner may read in a way of its own and each cause of 81 to 88, one and several at once, and
-//! one of writes and reads what turns on blanks and signs, and one of sessions each boundary, by the independent program's reading of each text. A
-//! case counts once for each thing that it shows.
+//! one of writes and reads what turns on blanks and signs, and one of sessions or of backups each boundary, by the independent program's reading of
+//! each case. A case counts once for each thing that it shows.
 
 pub mod accesses;
+pub mod backups;
 pub mod causes;
 pub mod faults;
 pub mod leaves;
@@ -64,6 +65,7 @@ impl Reached {
         let met = match case {
             Case::Plan { room, text } => planning(*room, text),
             Case::Session { .. } => sessions::met(case),
+            Case::Store { .. } | Case::Restore { .. } => backups::met(case),
             _ => accesses::met(case),
         };
         for label in met.into_iter().collect::<BTreeSet<String>>() {
@@ -75,9 +77,9 @@ impl Reached {
         self.counts.get(label).copied().unwrap_or(0)
     }
 
-    /// One line for each thing, of planning, of writes and reads and of sessions where the stream has such cases.
+    /// One line for each thing, of planning, of writes and reads, of sessions and of backups where the stream has such cases.
     pub fn lines(&self) -> Vec<String> {
-        let sorts = [labels(), accesses::labels(), sessions::labels()];
+        let sorts = [labels(), accesses::labels(), sessions::labels(), backups::labels()];
         let shown = sorts.into_iter().filter(|labels| labels.iter().any(|label| self.count(label) > 0));
         shown.flatten().map(|label| format!("reached {} {label}", self.count(&label))).collect()
     }
