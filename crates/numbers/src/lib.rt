@@ -36,9 +36,6 @@ pub struct Range {
 // The largest magnitude of 64 bits.
 const MOST: u64 = 0xFFFF_FFFF_FFFF_FFFF;
 
-// Every magnitude below it has room for one digit more, so that nearly all numbers are read without a division.
-const SMALL: u64 = 1_000_000_000_000_000_000;
-
 // The number of that sign and magnitude.
 pub fn with_sign(negative: bool, magnitude: u64) -> Signed
     ensures { λ r. ⌜ r ≡ held negative magnitude ⌝ }
@@ -69,9 +66,6 @@ fn one_more(n: Signed, b: u8) -> Signed
         return n;
     }
     let d = value_of(b);
-    if n.magnitude < SMALL {
-        return with_sign(n.negative, n.magnitude * 10 + d);
-    }
     if n.magnitude <= (MOST - d) / 10 {
         return with_sign(n.negative, n.magnitude * 10 + d);
     }
