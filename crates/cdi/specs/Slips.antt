@@ -9,7 +9,10 @@ use lib.ListN.{replicate}
 use Rattle.cdi.specs.Lists.{ascii}
 use Rattle.cdi.specs.Faults.{fault, least}
 use Rattle.cdi.specs.Text.{content}
-use Rattle.cdi.specs.Values.{withSign}
+use Rattle.cdi.specs.Rows.{size}
+use Rattle.cdi.specs.Rules.{outOfRange, formFaults, isSigned}
+use Rattle.cdi.specs.Walk.{noItems, variable, group, add, stand, copies, steps}
+use Rattle.cdi.specs.Values.{withSign, bytesOf, padded}
 use Rattle.cdi.specs.Access.{integer}
 use Rattle.cdi.specs.Worked.{all-pages, opened, single, Ask, plans, writes, Told, refusal, values, storedAs, toldOf, countsTold, lent, window, answer}
 
@@ -76,3 +79,30 @@ in-time = refl
 pub too-late : content (replicate 65536 32 ++ 0 ∷ []) ≡ none
 unfolding all-pages
 too-late = refl
+
+-- ── single definitions, each by a fact of its own ──
+
+-- T's group: its offset once, its members' offsets in every copy
+pub offsets-once : steps 2 (group 0 (pos 2) 3 (variable 5 0 (pos 0) 8 noItems) noItems) ≡ add (pos 2) ∷ copies 3 (add (pos 0) ∷ stand 5 3 8 ∷ [])
+unfolding all-pages
+offsets-once = refl
+
+pub whole-copies : copies 2 (add (pos 7) ∷ stand 3 1 4 ∷ []) ≡ add (pos 7) ∷ stand 3 1 4 ∷ add (pos 7) ∷ stand 3 1 4 ∷ []
+unfolding all-pages
+whole-copies = refl
+
+pub large-end-first : bytesOf 2 300 ≡ 1 ∷ 44 ∷ []
+unfolding all-pages
+large-end-first = refl
+
+pub zeros-behind : padded 4 (65 ∷ 66 ∷ []) ≡ 65 ∷ 66 ∷ 0 ∷ 0 ∷ []
+unfolding all-pages
+zeros-behind = refl
+
+pub zero-unsigned : isSigned (some (record { place = 0; value = pos 0 })) ≡ false
+unfolding all-pages
+zero-unsigned = refl
+
+pub size-by-text : formFaults 0 (size ("4" ∷ [])) (ascii "04") ≡ outOfRange 0 ∷ []
+unfolding all-pages
+size-by-text = refl
