@@ -5,7 +5,7 @@ use Prim.Native.Nat.{ℕ, _+_, _*_, _/_, _≤_, _<_}
 use native.Mathlib.Omega.{arith}
 use lib.ListN.{length, drop, length-take}
 use Rattle.cdi.specs.Walk.{Found}
-use Rattle.listing.specs.Batch.{numbersOf, batch, listed}
+use Rattle.listing_fill.specs.Batch.{numbersOf, batch, listed}
 use Rattle.lines_items.specs.Bytes.{linesOf, linesIn}
 
 in-front : (s : List ℕ) (n : ℕ) (fs : List Found) (rest : List ℕ) → linesIn s n (numbersOf fs ++ rest) (length fs) ≡ linesOf s n fs

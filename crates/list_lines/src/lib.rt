@@ -9,7 +9,7 @@ ghost use Prim.Native.Nat.{_*_, _/_, _≤_};
 ghost use lib.ListN.{length, take};
 ghost use Rattle.cdi.specs.Walk.{walk};
 ghost use Rattle.cdi.specs.Plans.{segmentsOf, isPlan};
-ghost use Rattle.listing.specs.Batch.{batch};
+ghost use Rattle.listing_fill.specs.Batch.{batch};
 ghost use Rattle.lines_items.specs.Bytes.{linesOf};
 
 // So many variables, and so many bytes for their lines.

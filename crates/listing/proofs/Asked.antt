@@ -11,7 +11,7 @@ use Rattle.cdi.specs.Walk.{walk}
 use Rattle.cdi.specs.Plans.{segmentsOf, isPlan}
 use Rattle.locate_rows.proofs.Numbers.{nots}
 use Rattle.locate.proofs.Segments.{a-plan}
-use Rattle.listing.specs.Batch.{batch, listed, listing, outAfter}
+use Rattle.listing_fill.specs.Batch.{batch, listed, listing, outAfter}
 use Rattle.listing.specs.Told.{listingOf}
 use Rattle.listing.specs.declared.Listing.the-variants.{Count, NotAPlan}
 

@@ -19,10 +19,10 @@ use Rattle.locate_plan.specs.Judging.{goodIn}
 use Rattle.locate_plan.proofs.Subtrees.{records-between}
 use Rattle.locate_plan.proofs.Tops.{Topped, topped, segments-more, segments-out, segment-keeps}
 use Rattle.locate.proofs.Segments.{good-segment}
-use Rattle.listing.specs.Batch.{batch, listed}
-use Rattle.listing.specs.Filling.{Filling, filling, fill, met, copiesMet, Copying}
-use Rattle.listing.proofs.Batches.{length-met, fill-append, fill-skip, fill-left, list-count, list-out}
-use Rattle.listing.proofs.Going.{alike, fill-long}
+use Rattle.listing_fill.specs.Batch.{batch, listed}
+use Rattle.listing_fill.specs.Filling.{Filling, filling, fill, met, copiesMet, Copying}
+use Rattle.listing_fill.proofs.Batches.{length-met, fill-append, fill-skip, fill-left, list-count, list-out}
+use Rattle.listing_fill.proofs.Going.{alike, fill-long}
 
 -- what is known at record i, with `left` variables to skip and k in the batch
 pub record Listed-to (t : List ℤ) (n : ℕ) (o₀ : List ℕ) (end room i left k : ℕ) (o : List ℕ) : Type 0 where

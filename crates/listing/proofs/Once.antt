@@ -7,7 +7,7 @@ use lib.IntN.{ℤ}
 use Rattle.cdi.specs.Walk.{walk}
 use Rattle.cdi.specs.Plans.{segmentsOf}
 use Rattle.cdi.proofs.Quiet.{impossible, same-accepted}
-use Rattle.listing.specs.Batch.{batch, listed, listing, outAfter}
+use Rattle.listing_fill.specs.Batch.{batch, listed, listing, outAfter}
 use Rattle.listing.specs.Told.{listingOf}
 use Rattle.listing.specs.declared.Listing.{Listing}
 use Rattle.listing.specs.declared.Listing.the-variants.{Count, NotAPlan}

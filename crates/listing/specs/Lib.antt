@@ -1,4 +1,2 @@
--- Batches of variables, and the words of the code that fills them.
-pub mod Batch
-pub mod Filling
+-- What listing answers.
 pub mod Told

@@ -1,5 +1,6 @@
 // Which tables are plans, and where variable n of a plan lives: asked of a table alone.
 
+use locate_copies::next_record;
 use locate_plan::is_plan;
 use locate_rows::COUNT;
 use locate_rows::EXTRA;
@@ -9,7 +10,6 @@ use locate_rows::rise_at;
 use locate_ways::NOWHERE;
 use locate_ways::RECORDS;
 use locate_ways::find_in;
-use locate_ways::next_record;
 use terms::FIELDS;
 ghost use mathlib.Core.Path.{_≡_};
 ghost use mathlib.Core.Bool.{true};

@@ -28,11 +28,12 @@ use Rattle.extent.proofs.Joins.{offset-sound, repeat-sound, extent-sound, exten
 use Rattle.extent.proofs.Reached.{Fits, fits-of, of-fits, past, join-first, join-second, Moves, offset-moves, arrives, extent-change}
 use Rattle.extent.proofs.Holding.{by-offset}
 use Rattle.locate_plan.specs.Judging.{elementExtent, goodIn, itemsExtent}
-use Rattle.locate_ways.specs.Finding.{answer, insideOf, standing, Finds, Site, movedBy, allRise, allFall, eachOf, copyAt, copyOf, Chosen}
-use Rattle.locate_ways.specs.declared.Copied.{Copied}
+use Rattle.locate_ways.specs.Finding.{answer, insideOf, standing, Finds, Site}
+use Rattle.locate_copies.specs.Choosing.{movedBy, allRise, allFall, eachOf, copyAt, copyOf, Chosen}
+use Rattle.locate_copies.specs.declared.Copied.{Copied}
 use Rattle.locate_plan.proofs.Subtrees.{Ranged, ranged, items-out, items-more, Same, same-steps, good-fits, good-members, good-told, good-following, records-between}
 use Rattle.locate_plan.proofs.Elements.{element-sound, element-extent, items-sound}
-use Rattle.locate_ways.proofs.Dividing.{one-sided}
+use Rattle.locate_copies.proofs.Dividing.{one-sided}
 use Rattle.locate_ways.proofs.Copies.{startsAt, copy-fits, copy-high, copy-low, copy-starts, share-up, share-down, same-start}
 
 -- refusal 21

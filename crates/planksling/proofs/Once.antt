@@ -11,7 +11,7 @@ use Rattle.cdi.specs.Plans.{segmentsOf}
 use Rattle.cdi.specs.Planning.{tableAfter}
 use Rattle.cdi.specs.Access.{Window, Value, windowAfter}
 use Rattle.locate.proofs.Once.{once}
-use Rattle.listing.specs.Batch.{batch, listed, outAfter}
+use Rattle.listing_fill.specs.Batch.{batch, listed, outAfter}
 use Rattle.listing.proofs.Once as listing
 use Rattle.outcomes.specs.Outcomes.{numberIn, placeAfter, valueAfter}
 

@@ -11,7 +11,7 @@ ghost use mathlib.Core.Bool.{true};
 ghost use lib.ListN.{length};
 ghost use Rattle.cdi.specs.Walk.{Found, walk};
 ghost use Rattle.cdi.specs.Plans.{isPlan, segmentsOf, variableOf, locating};
-ghost use Rattle.listing.specs.Batch.{batch, listed, listing, outAfter};
+ghost use Rattle.listing_fill.specs.Batch.{batch, listed, listing, outAfter};
 ghost use Rattle.outcomes.specs.Outcomes.{numberIn, valueAfter};
 
 // Variable n of any table; or 20, 21.

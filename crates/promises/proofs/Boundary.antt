@@ -21,7 +21,7 @@ use Rattle.cdi.proofs.PlanOf.{table-itself}
 use Rattle.plan_stages.specs.declared.Planned.the-variants.{Accepted, Refused}
 use Rattle.plan_stages.specs.Outlines.{answerOf}
 use Rattle.plan.proofs.Promises.{told, accepted-faultless}
-use Rattle.listing.specs.Batch.{listing}
+use Rattle.listing_fill.specs.Batch.{listing}
 use Rattle.access_kinds.specs.Told.{windowOf}
 use Rattle.access_lookup.specs.Told.{endIn, knownOf}
 use Rattle.access_lookup.proofs.Seeking.{known-plan}

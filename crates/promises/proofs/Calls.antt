@@ -36,7 +36,7 @@ use Rattle.locate.specs.Answers.{toldOf}
 use Rattle.locate.specs.declared.Located.{Located}
 use Rattle.locate.specs.declared.Located.the-variants.{NoVariable}
 use Rattle.locate.proofs.Once.{one-case}
-use Rattle.listing.specs.Batch.{numbersOf, batch, listed}
+use Rattle.listing_fill.specs.Batch.{numbersOf, batch, listed}
 use Rattle.maps.specs.Matches.{wantedOf}
 use Rattle.maps.specs.declared.Wanted.{Wanted}
 use Rattle.maps.specs.declared.Wanted.the-variants.{Number, Event, Text}

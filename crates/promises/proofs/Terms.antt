@@ -33,7 +33,7 @@ pub use Rattle.plan_stages.specs.declared.Planned.{Planned}
 pub use Rattle.plan.proofs.Promises.{told, Told}
 pub use Rattle.locate.specs.Answers.{toldOf}
 pub use Rattle.locate.specs.declared.Located.{Located}
-pub use Rattle.listing.specs.Batch.{batch, listed}
+pub use Rattle.listing_fill.specs.Batch.{batch, listed}
 pub use Rattle.maps.specs.Matches.{wantedOf}
 pub use Rattle.maps.specs.declared.Wanted.{Wanted}
 pub use Rattle.access_kinds.specs.Told.{windowOf}

@@ -9,12 +9,18 @@ Inv-loop front sum₀ i₀ sum i = Summing front sum i
 abbrev μ-loop : tie.MeasureT-loop
 μ-loop front sum₀ i₀ sum i = 510 - i
 
+loop-holds : tie.Need-loop-holds Inv-loop μ-loop
+loop-holds c = search summing
+
+returns : tie.Need-returns Inv-loop μ-loop
+returns c = search summing
+
 pub check-of-spec : {M : Type 1} → statement M
 check-of-spec =
     tie.close (tie.spec
     Inv-loop
     μ-loop
-    (λ c. search summing)
+    loop-holds
     (λ c. search summing)
     (λ c. search summing)
     (λ c. search summing)
@@ -25,4 +31,4 @@ check-of-spec =
     (λ c. search summing)
     (λ c. search summing)
     (λ c. search summing)
-    (λ c. search summing))
+    returns)

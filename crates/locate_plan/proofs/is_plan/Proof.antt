@@ -3,10 +3,16 @@ use Rattle.locate_plan.proofs.Tops.{planning}
 use Rattle.locate_plan.proofs.is_plan.Statement.{statement}
 use Rattle.locate_plan.proofs.is_plan.Tie as tie
 
+returns : tie.Need-returns
+returns c = search planning
+
+returns-2 : tie.Need-returns-2
+returns-2 c = search planning
+
 pub is-plan-spec : {M : Type 1} → statement M
 is-plan-spec =
     tie.close (tie.spec
-    (λ c. search planning)
-    (λ c. search planning)
+    returns
+    returns-2
     (λ c κs. search needs)
     (λ c. search planning))

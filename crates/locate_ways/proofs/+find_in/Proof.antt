@@ -6,9 +6,9 @@ use borrow.Fn.PlainCycle.{Measures, is, falls, and}
 use Rattle.locate_ways.proofs.find_in.Reads as find-in
 use Rattle.locate_ways.proofs.find_in.Kinds as find-in-kinds
 use Rattle.locate_ways.proofs.+find_in.Lts-find_in as find-in-lts
-use Rattle.locate_ways.proofs.choose.Reads as choose-reads
-use Rattle.locate_ways.proofs.moved_by.Reads as moved-by-reads
-use Rattle.locate_ways.proofs.next_record.Reads as next-record-reads
+use Rattle.locate_copies.proofs.choose.Reads as choose-reads
+use Rattle.locate_copies.proofs.moved_by.Reads as moved-by-reads
+use Rattle.locate_copies.proofs.next_record.Reads as next-record-reads
 use Rattle.locate_ways.proofs.packed.Reads as packed-reads
 use Rattle.locate_rows.proofs.natural_at.Reads as natural-at-reads
 use Rattle.locate_rows.proofs.rise_at.Reads as rise-at-reads

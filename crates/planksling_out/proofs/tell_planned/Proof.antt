@@ -5,11 +5,17 @@ use Rattle.outcomes.proofs.Telling.{number-by, place-by, value-by}
 use Rattle.planksling_out.proofs.tell_planned.Statement.{statement}
 use Rattle.planksling_out.proofs.tell_planned.Tie as tie
 
+returns : tie.Need-returns
+returns c = (search (number-by answerOf, needs), (search (value-by answerOf, needs), (search (value-by answerOf, needs), search (place-by answerOf, needs))))
+
+returns-2 : tie.Need-returns-2
+returns-2 c = (search (number-by answerOf, needs), (search (value-by answerOf, needs), (search (value-by answerOf, needs), search (place-by answerOf, needs))))
+
 pub tell-planned-spec : {M : Type 1} → statement M
 unfolding numberIn placeAfter valueAfter answerOf
 tell-planned-spec =
     tie.close (tie.spec
     (λ c. search needs)
     (λ c. search needs)
-    (λ c. (search (number-by answerOf, needs), (search (value-by answerOf, needs), (search (value-by answerOf, needs), search (place-by answerOf, needs)))))
-    (λ c. (search (number-by answerOf, needs), (search (value-by answerOf, needs), (search (value-by answerOf, needs), search (place-by answerOf, needs))))))
+    returns
+    returns-2)

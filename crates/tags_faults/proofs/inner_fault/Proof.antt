@@ -5,6 +5,12 @@ use Rattle.rules_judge.specs.Tables.{tables-page}
 use Rattle.tags_faults.proofs.inner_fault.Statement.{statement}
 use Rattle.tags_faults.proofs.inner_fault.Tie as tie
 
+returns : tie.Need-returns
+returns c = search (by-rules, by-last, needs)
+
+returns-2 : tie.Need-returns-2
+returns-2 c = search (by-rules, by-last, needs)
+
 pub inner-fault-spec : {M : Type 1} → statement M
 unfolding told-page tables-page
 inner-fault-spec =
@@ -13,11 +19,11 @@ inner-fault-spec =
     (λ c κs. search needs)
     (λ c κs. search needs)
     (λ c κs. search needs)
-    (λ c. search (by-rules, by-last, needs))
+    returns
     (λ c. search needs)
     (λ c κs. search needs)
     (λ c κs. search needs)
-    (λ c. search (by-rules, by-last, needs))
+    returns-2
     (λ c κs. search needs)
     (λ c. search (by-rules, by-last, needs))
     (λ c. search needs)
