@@ -1,11 +1,13 @@
 //! The streams of cases: frames that round-trip, shares of answers, and what small cases keep to.
 
+use reference::cases::leaves::FAULT_PLACES;
 use reference::cases::reached::{accesses, faults, labels as things, numbers, Reached};
 use reference::cases::stats::Shares;
 use reference::cases::texts::CAUSES;
 use reference::cases::{boundaries, is_small, Sort, Stream};
 use reference::plan::planned;
 use reference::table::plan;
+use reference::text::characters;
 use reference::walk::{copy_out, steps_for, STEPS};
 use reference::{answer, frame, line, Access, Case, Frames, Leaf};
 
@@ -42,6 +44,23 @@ fn single_readings() {
     assert_eq!(told(Leaf::Number(b"+ 7".to_vec())), "number none");
     assert_eq!(told(Leaf::Number(b"18446744073709551616".to_vec())), "number large");
     assert_eq!(told(Leaf::Name(b"offset".to_vec())), "name 0 8");
+}
+
+/// The stream of the gate has a first fault of characters at every place from 0 to 40.
+#[test]
+fn every_place_has_a_first_fault() {
+    let stream = Stream::new(1, Sort::Leaf, false);
+    let mut seen = [0; FAULT_PLACES as usize];
+    for index in 0..80_000 {
+        if let Case::Leaf(Leaf::Characters(bytes)) = stream.case(index) {
+            if let Err(refusal) = characters(&bytes) {
+                if let Some(count) = seen.get_mut(refusal.place as usize) {
+                    *count += 1;
+                }
+            }
+        }
+    }
+    assert!(seen.iter().all(|&count| count >= 20), "{seen:?}");
 }
 
 #[test]

@@ -216,7 +216,7 @@ fn characters(random: &mut Random) -> Leaf {
 }
 
 /// The places of the first fault that every stream of such cases goes through.
-const FAULT_PLACES: u64 = 41;
+pub const FAULT_PLACES: u64 = 41;
 
 /// Bytes that begin no allowed character.
 const FAULTS: [&[u8]; 12] = [
@@ -294,26 +294,4 @@ pub fn case(random: &mut Random, index: u64) -> Case {
         4 => some_name(random),
         _ => piece(random),
     })
-}
-
-#[cfg(test)]
-mod tests {
-    use super::*;
-    use crate::text::characters as allowed;
-
-    /// The stream of the gate has a first fault at every place from 0 to 40.
-    #[test]
-    fn every_place_has_a_first_fault() {
-        let mut seen = [0; FAULT_PLACES as usize];
-        for index in 0..80_000 {
-            if let Case::Leaf(Leaf::Characters(bytes)) = case(&mut Random::of_case(1, index), index) {
-                if let Err(refusal) = allowed(&bytes) {
-                    if let Some(count) = seen.get_mut(refusal.place as usize) {
-                        *count += 1;
-                    }
-                }
-            }
-        }
-        assert!(seen.iter().all(|&count| count >= 20), "{seen:?}");
-    }
 }
