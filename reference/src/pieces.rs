@@ -1,6 +1,8 @@
 //! Cutting content into pieces, left to right: tags, comments, instructions, references and runs of text.
 //! A piece that is malformed or unsupported ends the cutting, as nothing tells where the next one begins.
 
+use std::collections::BTreeSet;
+
 use crate::refusal::{refusal, Refusal};
 use crate::text::{is_blank, is_xml_character, FIRST_LINE};
 
@@ -183,8 +185,8 @@ fn tag(reader: &mut Reader) -> Cut<Kind> {
 
 /// Whether a name stands twice.
 fn is_twice(attributes: &[Attribute]) -> bool {
-    let again = |i: usize| attributes[..i].iter().any(|earlier| earlier.name == attributes[i].name);
-    (0..attributes.len()).any(again)
+    let names: BTreeSet<&[u8]> = attributes.iter().map(|attribute| &attribute.name[..]).collect();
+    names.len() < attributes.len()
 }
 
 fn start_tag(reader: &mut Reader) -> Cut<Kind> {

@@ -315,17 +315,16 @@ pub fn find_row(entries: &'static [Entry], name: &[u8]) -> Option<(usize, &'stat
 
 /// Where each child element stands in the row; none for an unknown one.
 pub fn standings(element: &Element, entries: &'static [Entry]) -> Vec<Option<Standing>> {
-    let mut standings: Vec<Option<Standing>> = Vec::new();
-    for child in child_elements(element) {
-        let standing = find_row(entries, &child.name).map(|(entry, row)| {
-            let earlier = || standings.iter().flatten();
-            let out_of_order = earlier().any(|other| other.entry > entry);
-            let too_often = entries[entry].count != Count::Any && earlier().any(|other| other.entry == entry);
-            Standing { entry, row, out_of_order, too_often }
-        });
-        standings.push(standing);
-    }
-    standings
+    // which entries stand before the child
+    let mut earlier = vec![false; entries.len()];
+    let mut standing = |child: &Element| {
+        let (entry, row) = find_row(entries, &child.name)?;
+        let out_of_order = earlier[entry + 1..].contains(&true);
+        let too_often = entries[entry].count != Count::Any && earlier[entry];
+        earlier[entry] = true;
+        Some(Standing { entry, row, out_of_order, too_often })
+    };
+    child_elements(element).into_iter().map(&mut standing).collect()
 }
 
 /// The entries of which exactly one must stand and none does.

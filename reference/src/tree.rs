@@ -123,8 +123,13 @@ fn children(pieces: &[Piece], next: &mut usize) -> Vec<Child> {
 /// Stages 4 to 7: the root element, or the least fault.
 pub fn root(content: &[u8]) -> Result<Element, Refusal> {
     let (pieces, last) = cut(content);
+    root_of(content, &pieces, last)
+}
+
+/// The same of a content that is cut: its pieces, and the fault that ended the cutting early.
+pub fn root_of(content: &[u8], pieces: &[Piece], last: Option<Refusal>) -> Result<Element, Refusal> {
     let mut structure = Structure::default();
-    for piece in &pieces {
+    for piece in pieces {
         structure.piece(piece);
     }
     structure.faults.extend(last);
@@ -133,5 +138,5 @@ pub fn root(content: &[u8]) -> Result<Element, Refusal> {
         return Err(fault);
     }
     let mut next = pieces.iter().position(|piece| matches!(piece.kind, Kind::StartTag { .. })).unwrap_or(0);
-    Ok(element(&pieces, &mut next))
+    Ok(element(pieces, &mut next))
 }

@@ -136,23 +136,24 @@ fn each_answer_has_its_share() {
     }
 }
 
-/// What the first cases of a stream reach, and their answers.
-fn reached(sort: Sort, count: u64) -> (Reached, Shares) {
+/// What the first cases of a stream reach; each is also handed on.
+fn reached(sort: Sort, count: u64, mut also: impl FnMut(&Case)) -> Reached {
     let stream = Stream::new(1, sort, false);
-    let (mut reached, mut shares) = (Reached::default(), Shares::default());
+    let mut reached = Reached::default();
     for index in 0..count {
         let case = stream.case(index);
         reached.add(&case);
-        shares.add(&case);
+        also(&case);
     }
-    (reached, shares)
+    reached
 }
 
 /// Each thing that a planner may read in a way of its own, by the independent program's reading; of numbers with blanks and signs and of several
 /// faults at once, shares; and each of 81 to 88 as the answer.
 #[test]
 fn the_planning_stream_reaches_each_way() {
-    let (reached, shares) = reached(Sort::Plan, 20_000);
+    let mut shares = Shares::default();
+    let reached = reached(Sort::Plan, 20_000, |case| shares.add(case));
     for thing in things() {
         assert!(reached.count(&thing) >= 20, "{thing}: {}", reached.count(&thing));
     }
@@ -190,7 +191,7 @@ fn small_cases_have_each_cause() {
 /// Writes and reads of ints whose size, bounds or properties have blanks or a plus.
 #[test]
 fn the_access_stream_turns_on_blanks_and_signs() {
-    let (reached, _) = reached(Sort::Access, 20_000);
+    let reached = reached(Sort::Access, 20_000, |_| ());
     for thing in accesses::labels() {
         assert!(reached.count(&thing) >= 20, "{thing}: {}", reached.count(&thing));
     }

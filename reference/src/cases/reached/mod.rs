@@ -18,7 +18,7 @@ use crate::answer::Case;
 use crate::pieces::{cut, Piece};
 use crate::refusal::Refusal;
 use crate::text::{characters, content, first_line};
-use crate::tree::{root, Element};
+use crate::tree::{root_of, Element};
 
 /// The pieces of a content that passes stages 1 to 3, and its root or its fault of stages 4 to 7.
 pub struct Read<'a> {
@@ -33,9 +33,10 @@ impl<'a> Read<'a> {
         let content = content(text).ok()?;
         characters(content).ok()?;
         first_line(content).ok()?;
-        let root = root(content);
+        let (pieces, last) = cut(content);
+        let root = root_of(content, &pieces, last);
         let fault = root.as_ref().err().copied();
-        Some(Read { content, pieces: cut(content).0, root: root.ok(), fault })
+        Some(Read { content, pieces, root: root.ok(), fault })
     }
 
     /// Whether planning comes to this place: behind the fault of these stages it needn't.
