@@ -4,48 +4,33 @@ use crate::reads::reading;
 use crate::writes::event;
 use crate::writes::integer;
 use crate::writes::string;
+use answers_fields::Asked;
 use answers_fields::fields;
-use answers_out::steps::Step;
-use answers_out::steps::bad;
-ghost use Prim.Native.Nat.{_≤_};
-ghost use lib.ListN.{length};
+use answers_out::lines::Line;
+use answers_out::lines::bad;
+
+// The rest of a frame behind its window, by its first byte.
+fn answer(first: u8, text: &[u8], table: &[i64], asked: Asked, window: &mut [u8]) -> Line {
+    if first == b'I' {
+        return integer(text, table, asked, window);
+    }
+    if first == b'E' {
+        return event(text, table, asked, window);
+    }
+    if first == b'S' {
+        return string(text, table, asked, window);
+    }
+    reading(text, table, asked, window)
+}
 
 // The frame `I`, `E`, `S` or `G`.
-pub fn frame(
-    first: u8,
-    text: &mut [u8],
-    table: &mut [i64],
-    window: &mut [u8],
-    value: &mut [u8],
-    out: &mut [u8],
-    at: usize,
-) -> Step
-    requires { ⌜ (at ≤ length (now out)) × (64 ≤ length (now out)) ⌝ }
-    ensures { λ r. ⌜ r .at ≤ length (now (out .entry)) ⌝ }
-{
+pub fn frame(first: u8, text: &mut [u8], table: &mut [i64], window: &mut [u8]) -> Line {
     let asked = fields(text, table, window);
     if !asked.whole {
-        return bad(out, at);
+        return bad();
     }
     let t = asked.text;
     let k = asked.numbers;
     let w = asked.window;
-    if first == b'I' {
-        return integer(&text[0..t], &table[0..k], asked, &mut window[0..w], out, at);
-    }
-    if first == b'E' {
-        return event(&text[0..t], &table[0..k], asked, &mut window[0..w], out, at);
-    }
-    if first == b'S' {
-        return string(
-            &text[0..t],
-            &table[0..k],
-            asked,
-            &mut window[0..w],
-            value,
-            out,
-            at,
-        );
-    }
-    reading(&text[0..t], &table[0..k], asked, &window[0..w], out, at)
+    answer(first, &text[0..t], &table[0..k], asked, &mut window[0..w])
 }

@@ -9,15 +9,19 @@ pub mod sessions; // sessions with undo
 pub mod tables; // locating
 pub mod writes; // answers to writing
 
-use answers_out::steps::Step;
-use answers_out::steps::bad;
+use answers_out::lines::Line;
+use answers_out::lines::bad;
+use answers_out::say;
 use frames::Byte;
-ghost use Prim.Native.Nat.{_≤_};
-ghost use lib.ListN.{length};
 
-// Is it the first byte of a frame that holds bytes and nothing else?
-fn is_plain(first: u8) -> bool {
-    first == b'Z' || first == b'U' || first == b'N' || first == b'F' || first == b'M'
+// Is it the first byte of a frame that begins with bytes?
+fn is_leaf(first: u8) -> bool {
+    first == b'C'
+        || first == b'Z'
+        || first == b'U'
+        || first == b'N'
+        || first == b'F'
+        || first == b'M'
 }
 
 // Is it the first byte of a frame that writes or reads?
@@ -25,68 +29,46 @@ fn is_access(first: u8) -> bool {
     first == b'I' || first == b'E' || first == b'S' || first == b'G'
 }
 
-// The frame that begins with this byte.
-fn next(
-    first: u8,
-    text: &mut [u8],
-    table: &mut [i64],
-    window: &mut [u8],
-    value: &mut [u8],
-    out: &mut [u8],
-    at: usize,
-) -> Step
-    requires { ⌜ (at ≤ length (now out)) × (64 ≤ length (now out)) ⌝ }
-    ensures { λ r. ⌜ r .at ≤ length (now (out .entry)) ⌝ }
-{
-    if first == b'C' || is_plain(first) {
-        return leaves::frame(first, text, out, at);
+// The answer to the frame that begins with this byte.
+fn next(first: u8, text: &mut [u8], table: &mut [i64], window: &mut [u8]) -> Line {
+    if is_leaf(first) {
+        return leaves::frame(first, text);
     }
     if first == b'L' {
-        return tables::frame(table, text, out, at);
+        return tables::frame(table, text);
     }
     if first == b'P' {
-        return plans::frame(text, table, out, at);
+        return plans::frame(text, table);
     }
     if first == b'J' {
-        return sessions::frame(text, table, window, value, out, at);
+        return sessions::frame(text, table, window);
     }
     if first == b'K' {
-        return answers_backups::frame_store(window, out, at);
+        return answers_backups::frame_store(window);
     }
     if first == b'R' {
-        return answers_backups::frame_read(out, at);
+        return answers_backups::frame_read();
     }
     if is_access(first) {
-        return accesses::frame(first, text, table, window, value, out, at);
+        return accesses::frame(first, text, table, window);
     }
-    bad(out, at)
+    bad()
 }
 
 // Frames up to the end of the input, or to the first bad one.
-fn run(
-    text: &mut [u8],
-    table: &mut [i64],
-    window: &mut [u8],
-    value: &mut [u8],
-    out: &mut [u8],
-) -> usize
-    requires { ⌜ 64 ≤ length (now out) ⌝ }
-    ensures { λ r. ⌜ r ≤ length (now (out .entry)) ⌝ }
-{
-    let mut at = 0;
+fn run(text: &mut [u8], table: &mut [i64], window: &mut [u8]) {
     let mut left: u64 = 0xFFFF_FFFF_FFFF_FFFF;
     while 0 < left {
         left = left - 1;
         let Byte::Is(first) = frames::read_byte() else {
-            return at;
+            return;
         };
-        let step = next(first, text, table, window, value, out, at);
-        at = step.at;
-        if !step.on {
-            return at;
+        let line = next(first, text, table, window);
+        say(line);
+        if !line.on {
+            return;
         }
     }
-    at
 }
 
 // The lengths of the buffers are the limits of the fields.
@@ -94,8 +76,5 @@ fn main() {
     let mut text = [0u8; 70000];
     let mut table = [0i64; 40000];
     let mut window = [0u8; 70000];
-    let mut value = [0u8; 70000];
-    let mut out = [0u8; 65536];
-    let at = run(&mut text, &mut table, &mut window, &mut value, &mut out);
-    answers_out::flush(&out, at);
+    run(&mut text, &mut table, &mut window);
 }

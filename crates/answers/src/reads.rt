@@ -3,47 +3,29 @@
 use access::read;
 use access_reading::Reading;
 use answers_fields::Asked;
-use answers_out::put_all;
-use answers_out::put_bytes;
-use answers_out::put_either;
-use answers_out::put_next;
-use answers_out::put_number;
-use answers_out::put_refusal;
-use answers_out::steps::Step;
-use answers_out::steps::ended;
-ghost use Prim.Native.Nat.{_≤_};
-ghost use lib.ListN.{length};
+use answers_out::lines::Line;
+use answers_out::lines::either;
+use answers_out::lines::ended;
+use answers_out::lines::one;
+use answers_out::lines::plain;
+use answers_out::lines::refused;
+use answers_out::tell;
+use answers_out::tell_bytes;
+use answers_out::words;
 
-// ` accepted` or ` not`, by whether writing the value now would be accepted
-fn flagged(writable: bool, out: &mut [u8], at: usize) -> Step
-    requires { ⌜ (at ≤ length (now out)) × (64 ≤ length (now out)) ⌝ }
-    ensures { λ r. ⌜ r .at ≤ length (now (out .entry)) ⌝ }
-{
-    let to = put_either(out, at, writable, b" accepted", b" not");
-    ended(out, to)
+// ` accepted` or ` not` at the end, by whether writing the value now would be accepted
+fn flagged(line: Line, writable: bool) -> Line {
+    ended(line, either(writable, words::ACCEPTED, words::NOT))
 }
 
-// `text HEX`, with `-` for no bytes
-fn spelled(bytes: &[u8], out: &mut [u8], at: usize) -> usize
-    requires { ⌜ (at ≤ length (now out)) × (64 ≤ length (now out)) ⌝ }
-    ensures { λ r. ⌜ r ≤ length (now (out .entry)) ⌝ }
-{
-    let to = put_either(out, at, bytes.len() == 0, b"text -", b"text ");
-    put_bytes(out, to, bytes)
+// Writes `text HEX`, with `-` for no bytes.
+fn spell(bytes: &[u8]) {
+    tell(plain(either(bytes.len() == 0, words::NO_TEXT, words::TEXT)));
+    tell_bytes(bytes);
 }
 
 // The answer to a frame `G`.
-pub fn reading(
-    text: &[u8],
-    table: &[i64],
-    asked: Asked,
-    window: &[u8],
-    out: &mut [u8],
-    at: usize,
-) -> Step
-    requires { ⌜ (at ≤ length (now out)) × (64 ≤ length (now out)) ⌝ }
-    ensures { λ r. ⌜ r .at ≤ length (now (out .entry)) ⌝ }
-{
+pub fn reading(text: &[u8], table: &[i64], asked: Asked, window: &[u8]) -> Line {
     let answer = read(text, table, asked.n, asked.space, asked.first, window);
     match answer {
         Reading::Integer {
@@ -51,22 +33,14 @@ pub fn reading(
             magnitude,
             writable,
         } => {
-            let to = put_either(out, at, negative, b"integer -", b"integer ");
-            let end = put_number(out, to, magnitude);
-            flagged(writable, out, end)
+            let word = either(negative, words::NEGATIVE, words::INTEGER);
+            flagged(one(word, magnitude), writable)
         }
-        Reading::Event { id, writable } => {
-            let to = put_all(out, at, b"event");
-            let end = put_next(out, to, id);
-            flagged(writable, out, end)
-        }
+        Reading::Event { id, writable } => flagged(one(words::EVENT, id), writable),
         Reading::Text { from, to, writable } => {
-            let end = spelled(&window[from..to], out, at);
-            flagged(writable, out, end)
+            spell(&window[from..to]);
+            flagged(plain(words::NOTHING), writable)
         }
-        Reading::Refused { number, place } => {
-            let end = put_refusal(out, at, number, place);
-            ended(out, end)
-        }
+        Reading::Refused { number, place } => refused(number, place),
     }
 }

@@ -1,14 +1,17 @@
 // Frames `J`: a session, its operations in order, each on what the one before left.
 
+use answers_fields::Held;
 use answers_fields::text_and_table;
 use answers_fields::window_of;
-use answers_out::put_all;
-use answers_out::put_hex;
-use answers_out::put_next;
-use answers_out::put_number;
-use answers_out::steps::Step;
-use answers_out::steps::bad;
-use answers_out::steps::ended;
+use answers_out::lines::Line;
+use answers_out::lines::bad;
+use answers_out::lines::either;
+use answers_out::lines::ended;
+use answers_out::lines::hashed;
+use answers_out::lines::one;
+use answers_out::lines::plain;
+use answers_out::tell;
+use answers_out::words;
 use frames::Byte;
 use frames::Field;
 use frames::read_byte;
@@ -23,7 +26,6 @@ use undo::edit_integer;
 use undo::edit_text;
 use undo::undo;
 use undo_edit::Outcome;
-ghost use mathlib.Core.Path.{_≡_};
 ghost use Prim.Native.Nat.{_≤_};
 ghost use lib.ListN.{length};
 
@@ -97,8 +99,7 @@ fn integer(
     text: &[u8],
     table: &[i64],
     n: u64,
-    space: u64,
-    first: u64,
+    held: Held,
     window: &mut [u8],
     journal: &mut [u8],
     session: u64,
@@ -116,8 +117,8 @@ fn integer(
         text,
         table,
         n,
-        space,
-        first,
+        held.space,
+        held.first,
         window,
         journal,
         session,
@@ -132,8 +133,7 @@ fn event(
     text: &[u8],
     table: &[i64],
     n: u64,
-    space: u64,
-    first: u64,
+    held: Held,
     window: &mut [u8],
     journal: &mut [u8],
     session: u64,
@@ -141,7 +141,17 @@ fn event(
     let Field::Is(id) = read_number() else {
         return unread();
     };
-    let outcome = edit_event(text, table, n, space, first, window, journal, session, id);
+    let outcome = edit_event(
+        text,
+        table,
+        n,
+        held.space,
+        held.first,
+        window,
+        journal,
+        session,
+        id,
+    );
     told(outcome, session)
 }
 
@@ -150,14 +160,13 @@ fn string(
     text: &[u8],
     table: &[i64],
     n: u64,
-    space: u64,
-    first: u64,
+    held: Held,
     window: &mut [u8],
     journal: &mut [u8],
     session: u64,
-    value: &mut [u8],
 ) -> Done {
-    let part = read_part(value);
+    let mut value = [0u8; 70000];
+    let part = read_part(&mut value);
     if !part.whole {
         return unread();
     }
@@ -166,8 +175,8 @@ fn string(
         text,
         table,
         n,
-        space,
-        first,
+        held.space,
+        held.first,
         window,
         journal,
         session,
@@ -176,47 +185,56 @@ fn string(
     told(outcome, session)
 }
 
+// An edit of this kind.
+fn edit(
+    kind: u8,
+    text: &[u8],
+    table: &[i64],
+    held: Held,
+    window: &mut [u8],
+    journal: &mut [u8],
+    session: u64,
+) -> Done {
+    let Field::Is(n) = read_number() else {
+        return unread();
+    };
+    if kind == b'I' {
+        return integer(text, table, n, held, window, journal, session);
+    }
+    if kind == b'E' {
+        return event(text, table, n, held, window, journal, session);
+    }
+    if kind == b'S' {
+        return string(text, table, n, held, window, journal, session);
+    }
+    unread()
+}
+
 // The next operation.
 fn operation(
     text: &[u8],
     table: &[i64],
-    space: u64,
-    first: u64,
+    held: Held,
     window: &mut [u8],
     journal: &mut [u8],
     session: u64,
-    value: &mut [u8],
 ) -> Done {
     let Byte::Is(kind) = read_byte() else {
         return unread();
     };
     if kind == b'U' {
-        let outcome = undo(text, table, space, first, window, journal, session);
-        return told(outcome, session);
-    }
-    let Field::Is(n) = read_number() else {
-        return unread();
-    };
-    if kind == b'I' {
-        return integer(text, table, n, space, first, window, journal, session);
-    }
-    if kind == b'E' {
-        return event(text, table, n, space, first, window, journal, session);
-    }
-    if kind == b'S' {
-        return string(
+        let outcome = undo(
             text,
             table,
-            n,
-            space,
-            first,
+            held.space,
+            held.first,
             window,
             journal,
             session,
-            value,
         );
+        return told(outcome, session);
     }
-    unread()
+    edit(kind, text, table, held, window, journal, session)
 }
 
 // The steps with one more: the session value and the hashes of window and journal.
@@ -233,26 +251,25 @@ pub struct Left {
     pub steps: u64,
 }
 
-// As many operations as there is room for their refusals.
+// So many operations, with number and place of each refusal.
 fn operations(
     text: &[u8],
     table: &[i64],
-    space: u64,
-    first: u64,
+    held: Held,
     window: &mut [u8],
     journal: &mut [u8],
     session: u64,
-    value: &mut [u8],
-    numbers: &mut [usize],
-    places: &mut [usize],
+    count: usize,
+    numbers: &mut [usize; 1000],
+    places: &mut [usize; 1000],
 ) -> Left
-    requires { ⌜ (length (now numbers) ≡ length (now places)) × (length (now numbers) ≤ 1000) ⌝ }
+    requires { ⌜ count ≤ 1000 ⌝ }
 {
     let mut stands = session;
     let mut steps = hash_bytes(b"");
     let mut i = 0;
-    while i < numbers.len() {
-        let done = operation(text, table, space, first, window, journal, stands, value);
+    while i < count {
+        let done = operation(text, table, held, window, journal, stands);
         if !done.whole {
             return Left {
                 whole: false,
@@ -275,93 +292,69 @@ fn operations(
 
 // ── the line ──
 
-// `+` or `NUMBER.PLACE`
-fn put_outcome(number: usize, place: usize, out: &mut [u8], at: usize) -> usize
-    requires { ⌜ (at ≤ length (now out)) × (64 ≤ length (now out)) ⌝ }
-    ensures { λ r. ⌜ r ≤ length (now (out .entry)) ⌝ }
-{
+// Writes a word, and `+` or `NUMBER.PLACE` behind it.
+fn tell_outcome(word: usize, number: usize, place: usize) {
     if number == 0 {
-        return put_all(out, at, b"+");
+        tell(ended(plain(word), words::STANDS));
+        return;
     }
-    let mut to = put_number(out, at, number as u64);
-    to = put_all(out, to, b".");
-    put_number(out, to, place as u64)
+    tell(one(word, number as u64));
+    tell(one(words::DOT, place as u64));
 }
 
-// All outcomes, with commas between; `-` if there are none.
-fn put_outcomes(numbers: &[usize], places: &[usize], out: &mut [u8], at: usize) -> usize
-    requires { ⌜ (length (now numbers) ≡ length (now places)) × (at ≤ length (now out)) × (64 ≤ length (now out)) ⌝ }
-    ensures { λ r. ⌜ r ≤ length (now (out .entry)) ⌝ }
+// Writes so many outcomes, with commas between; `-` if there are none.
+fn tell_outcomes(numbers: &[usize; 1000], places: &[usize; 1000], count: usize)
+    requires { ⌜ count ≤ 1000 ⌝ }
 {
-    if numbers.len() == 0 {
-        return put_all(out, at, b"-");
+    if count == 0 {
+        tell(plain(words::DASH));
     }
-    let mut to = put_outcome(numbers[0], places[0], out, at);
-    let mut i = 1;
-    while i < numbers.len() {
-        to = put_all(out, to, b",");
-        to = put_outcome(numbers[i], places[i], out, to);
+    let mut i = 0;
+    while i < count {
+        let before = either(i == 0, words::NOTHING, words::COMMA);
+        tell_outcome(before, numbers[i], places[i]);
         i += 1;
     }
-    to
 }
 
-// `session OUTCOMES SESSION WINDOW JOURNAL STEPS`
-fn line(
-    numbers: &[usize],
-    places: &[usize],
-    left: Left,
-    window: &[u8],
-    journal: &[u8],
-    out: &mut [u8],
-    at: usize,
-) -> Step
-    requires { ⌜ (length (now numbers) ≡ length (now places)) × (at ≤ length (now out)) × (64 ≤ length (now out)) ⌝ }
-    ensures { λ r. ⌜ r .at ≤ length (now (out .entry)) ⌝ }
-{
-    let mut to = put_all(out, at, b"session ");
-    to = put_outcomes(numbers, places, out, to);
-    to = put_next(out, to, left.session);
-    to = put_hex(out, to, hash_bytes(window));
-    to = put_hex(out, to, hash_bytes(journal));
-    to = put_hex(out, to, left.steps);
-    ended(out, to)
+// ` SESSION WINDOW JOURNAL STEPS`, the end of the line
+fn state(left: Left, window: &[u8], journal: &[u8]) -> Line {
+    tell(hashed(one(words::BLANK, left.session), hash_bytes(window)));
+    tell(hashed(plain(words::NOTHING), hash_bytes(journal)));
+    hashed(plain(words::NOTHING), left.steps)
 }
 
-// The operations of a session, and the line.
+// So many operations, and `session OUTCOMES SESSION WINDOW JOURNAL STEPS`.
 fn session(
     text: &[u8],
     table: &[i64],
-    space: u64,
-    first: u64,
+    held: Held,
     window: &mut [u8],
     journal: &mut [u8],
     session: u64,
-    value: &mut [u8],
-    numbers: &mut [usize],
-    places: &mut [usize],
-    out: &mut [u8],
-    at: usize,
-) -> Step
-    requires { ⌜ (length (now numbers) ≡ length (now places)) × (length (now numbers) ≤ 1000) × (at ≤ length (now out)) × (64 ≤ length (now out)) ⌝ }
-    ensures { λ r. ⌜ r .at ≤ length (now (out .entry)) ⌝ }
+    count: usize,
+) -> Line
+    requires { ⌜ count ≤ 1000 ⌝ }
 {
+    let mut numbers = [0usize; 1000];
+    let mut places = [0usize; 1000];
     let left = operations(
         text,
         table,
-        space,
-        first,
+        held,
         window,
         journal,
         session,
-        value,
-        numbers,
-        places,
+        count,
+        &mut numbers,
+        &mut places,
     );
     if !left.whole {
-        return bad(out, at);
+        return bad();
     }
-    line(numbers, places, left, window, journal, out, at)
+    tell(plain(words::SESSION));
+    tell_outcomes(&numbers, &places, count);
+    state(left, window, journal)
 }
 
 // How many operations there are, or 1,001 where there are more than 1,000 or the count is cut off.
@@ -377,79 +370,41 @@ fn count() -> usize
     n as usize
 }
 
-// The rest of a frame behind its window. The journal's buffer and the room for refusals are as long as a frame may ask.
-fn from_journal(
-    text: &[u8],
-    table: &[i64],
-    space: u64,
-    first: u64,
-    window: &mut [u8],
-    value: &mut [u8],
-    out: &mut [u8],
-    at: usize,
-) -> Step
-    requires { ⌜ (at ≤ length (now out)) × (64 ≤ length (now out)) ⌝ }
-    ensures { λ r. ⌜ r .at ≤ length (now (out .entry)) ⌝ }
-{
+// The rest of a frame behind its window. The journal's buffer is as long as a frame may ask.
+fn from_journal(text: &[u8], table: &[i64], held: Held, window: &mut [u8]) -> Line {
     let mut journal = [0u8; 70000];
-    let mut numbers = [0usize; 1000];
-    let mut places = [0usize; 1000];
     let kept = journal_of(&mut journal);
     if !kept.whole {
-        return bad(out, at);
+        return bad();
     }
     let asked = count();
     if 1000 < asked {
-        return bad(out, at);
+        return bad();
     }
     let size = kept.journal;
     session(
         text,
         table,
-        space,
-        first,
+        held,
         window,
         &mut journal[0..size],
         kept.session,
-        value,
-        &mut numbers[0..asked],
-        &mut places[0..asked],
-        out,
-        at,
+        asked,
     )
 }
 
 // The rest of a frame `J`.
-pub fn frame(
-    text: &mut [u8],
-    table: &mut [i64],
-    window: &mut [u8],
-    value: &mut [u8],
-    out: &mut [u8],
-    at: usize,
-) -> Step
-    requires { ⌜ (at ≤ length (now out)) × (64 ≤ length (now out)) ⌝ }
-    ensures { λ r. ⌜ r .at ≤ length (now (out .entry)) ⌝ }
-{
+pub fn frame(text: &mut [u8], table: &mut [i64], window: &mut [u8]) -> Line {
     let described = text_and_table(text, table, window);
     if !described.whole {
-        return bad(out, at);
+        return bad();
     }
     let held = window_of(window);
     if !held.whole {
-        return bad(out, at);
+        return bad();
     }
     let t = described.text;
     let k = described.numbers;
     let w = held.window;
-    from_journal(
-        &text[0..t],
-        &table[0..k],
-        held.space,
-        held.first,
-        &mut window[0..w],
-        value,
-        out,
-        at,
-    )
+    from_journal(&text[0..t], &table[0..k], held, &mut window[0..w])
 }

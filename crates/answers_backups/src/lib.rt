@@ -1,12 +1,12 @@
 // Frames `K` and `R`: a window stored in blocks, and a backup read back, each into an output of so much room.
 
-use answers_out::put_all;
-use answers_out::put_hex;
-use answers_out::put_next;
-use answers_out::put_refusal;
-use answers_out::steps::Step;
-use answers_out::steps::bad;
-use answers_out::steps::ended;
+use answers_out::lines::Line;
+use answers_out::lines::bad;
+use answers_out::lines::hashed;
+use answers_out::lines::one;
+use answers_out::lines::refused;
+use answers_out::lines::two;
+use answers_out::words;
 use backups_reading::Read;
 use backups_reading::restore;
 use backups_storing::Stored;
@@ -16,7 +16,6 @@ use frames::read_number;
 use frames::read_part;
 use frames_hash::hash_bytes;
 ghost use Prim.Native.Nat.{_≤_};
-ghost use lib.ListN.{length};
 
 // ── the lent output ──
 
@@ -49,101 +48,65 @@ fn room() -> usize
 // ── the lines ──
 
 // `stored LENGTH` or `refused NUMBER PLACE`
-fn tell_stored(answer: Stored, out: &mut [u8], at: usize) -> usize
-    requires { ⌜ (at ≤ length (now out)) × (64 ≤ length (now out)) ⌝ }
-    ensures { λ r. ⌜ r ≤ length (now (out .entry)) ⌝ }
-{
+fn tell_stored(answer: Stored) -> Line {
     match answer {
-        Stored::Size(size) => {
-            let to = put_all(out, at, b"stored");
-            put_next(out, to, size as u64)
-        }
-        Stored::Refused { number, place } => put_refusal(out, at, number, place),
+        Stored::Size(size) => one(words::STORED, size as u64),
+        Stored::Refused { number, place } => refused(number, place),
     }
 }
 
 // `restored LENGTH SPACE` or `refused NUMBER PLACE`
-fn tell_read(answer: Read, out: &mut [u8], at: usize) -> usize
-    requires { ⌜ (at ≤ length (now out)) × (64 ≤ length (now out)) ⌝ }
-    ensures { λ r. ⌜ r ≤ length (now (out .entry)) ⌝ }
-{
+fn tell_read(answer: Read) -> Line {
     match answer {
-        Read::Window { size, space } => {
-            let mut to = put_all(out, at, b"restored");
-            to = put_next(out, to, size as u64);
-            put_next(out, to, space)
-        }
-        Read::Refused { number, place } => put_refusal(out, at, number, place),
+        Read::Window { size, space } => two(words::RESTORED, size as u64, space),
+        Read::Refused { number, place } => refused(number, place),
     }
 }
 
-// The hash of the whole output, which ends each line.
-fn hashed(output: &[u8], out: &mut [u8], at: usize) -> Step
-    requires { ⌜ (at ≤ length (now out)) × (64 ≤ length (now out)) ⌝ }
-    ensures { λ r. ⌜ r .at ≤ length (now (out .entry)) ⌝ }
-{
-    let to = put_hex(out, at, hash_bytes(output));
-    ended(out, to)
-}
+// ── the calls: each line ends in the hash of the whole output ──
 
-// ── the calls ──
-
-fn stored(space: u64, window: &[u8], output: &mut [u8], out: &mut [u8], at: usize) -> Step
-    requires { ⌜ (at ≤ length (now out)) × (64 ≤ length (now out)) ⌝ }
-    ensures { λ r. ⌜ r .at ≤ length (now (out .entry)) ⌝ }
-{
+fn stored(space: u64, window: &[u8], output: &mut [u8]) -> Line {
     fill(output);
     let answer = store(space, window, output);
-    let to = tell_stored(answer, out, at);
-    hashed(output, out, to)
+    hashed(tell_stored(answer), hash_bytes(output))
 }
 
-fn restored(backup: &[u8], output: &mut [u8], out: &mut [u8], at: usize) -> Step
-    requires { ⌜ (at ≤ length (now out)) × (64 ≤ length (now out)) ⌝ }
-    ensures { λ r. ⌜ r .at ≤ length (now (out .entry)) ⌝ }
-{
+fn restored(backup: &[u8], output: &mut [u8]) -> Line {
     fill(output);
     let answer = restore(backup, output);
-    let to = tell_read(answer, out, at);
-    hashed(output, out, to)
+    hashed(tell_read(answer), hash_bytes(output))
 }
 
 // The rest of a frame `K`.
-pub fn frame_store(window: &mut [u8], out: &mut [u8], at: usize) -> Step
-    requires { ⌜ (at ≤ length (now out)) × (64 ≤ length (now out)) ⌝ }
-    ensures { λ r. ⌜ r .at ≤ length (now (out .entry)) ⌝ }
-{
+pub fn frame_store(window: &mut [u8]) -> Line {
     let mut output = [0u8; 80000];
     let Field::Is(space) = read_number() else {
-        return bad(out, at);
+        return bad();
     };
     let part = read_part(window);
     if !part.whole {
-        return bad(out, at);
+        return bad();
     }
     let asked = room();
     if 80000 < asked {
-        return bad(out, at);
+        return bad();
     }
     let size = part.size;
-    stored(space, &window[0..size], &mut output[0..asked], out, at)
+    stored(space, &window[0..size], &mut output[0..asked])
 }
 
 // The rest of a frame `R`.
-pub fn frame_read(out: &mut [u8], at: usize) -> Step
-    requires { ⌜ (at ≤ length (now out)) × (64 ≤ length (now out)) ⌝ }
-    ensures { λ r. ⌜ r .at ≤ length (now (out .entry)) ⌝ }
-{
+pub fn frame_read() -> Line {
     let mut backup = [0u8; 80000];
     let mut output = [0u8; 80000];
     let part = read_part(&mut backup);
     if !part.whole {
-        return bad(out, at);
+        return bad();
     }
     let asked = room();
     if 80000 < asked {
-        return bad(out, at);
+        return bad();
     }
     let size = part.size;
-    restored(&backup[0..size], &mut output[0..asked], out, at)
+    restored(&backup[0..size], &mut output[0..asked])
 }

@@ -1,9 +1,13 @@
-// Writing lines through one buffer, which is written out whenever it is full.
+// The lines of answers: a line is made as numbers, and written out as bytes.
 
-pub mod steps;
+pub mod lines; // what stands in a line
+pub mod words; // the words of lines
 
+use lines::Line;
 ghost use Prim.Native.Nat.{_+_, _≤_};
 ghost use lib.ListN.{length};
+
+// ── bytes put into a buffer, which is written out whenever it is full ──
 
 // A place with room for 64 bytes: `at`, or the buffer's start once it is written out.
 fn room(out: &mut [u8], at: usize) -> usize
@@ -18,7 +22,7 @@ fn room(out: &mut [u8], at: usize) -> usize
 }
 
 // These bytes.
-pub fn put_all(out: &mut [u8], at: usize, bytes: &[u8]) -> usize
+fn put_all(out: &mut [u8], at: usize, bytes: &[u8]) -> usize
     requires { ⌜ (at ≤ length (now out)) × (64 ≤ length (now out)) ⌝ }
     ensures { λ r. ⌜ r ≤ length (now (out .entry)) ⌝ }
 {
@@ -31,19 +35,8 @@ pub fn put_all(out: &mut [u8], at: usize, bytes: &[u8]) -> usize
     0
 }
 
-// One word or the other.
-pub fn put_either(out: &mut [u8], at: usize, first: bool, a: &[u8], b: &[u8]) -> usize
-    requires { ⌜ (at ≤ length (now out)) × (64 ≤ length (now out)) ⌝ }
-    ensures { λ r. ⌜ r ≤ length (now (out .entry)) ⌝ }
-{
-    if first {
-        return put_all(out, at, a);
-    }
-    put_all(out, at, b)
-}
-
 // A number in decimal.
-pub fn put_number(out: &mut [u8], at: usize, n: u64) -> usize
+fn put_number(out: &mut [u8], at: usize, n: u64) -> usize
     requires { ⌜ (at ≤ length (now out)) × (64 ≤ length (now out)) ⌝ }
     ensures { λ r. ⌜ r ≤ length (now (out .entry)) ⌝ }
 {
@@ -52,31 +45,12 @@ pub fn put_number(out: &mut [u8], at: usize, n: u64) -> usize
 }
 
 // A blank and a number.
-pub fn put_next(out: &mut [u8], at: usize, n: u64) -> usize
+fn put_next(out: &mut [u8], at: usize, n: u64) -> usize
     requires { ⌜ (at ≤ length (now out)) × (64 ≤ length (now out)) ⌝ }
     ensures { λ r. ⌜ r ≤ length (now (out .entry)) ⌝ }
 {
     let to = room(out, at);
     lines_items::put_next(out, to, n)
-}
-
-// A blank and the word for a kind.
-pub fn put_kind(out: &mut [u8], at: usize, kind: u64) -> usize
-    requires { ⌜ (at ≤ length (now out)) × (64 ≤ length (now out)) ⌝ }
-    ensures { λ r. ⌜ r ≤ length (now (out .entry)) ⌝ }
-{
-    let to = room(out, at);
-    lines_items::put_kind(out, to, kind)
-}
-
-// `refused NUMBER PLACE`
-pub fn put_refusal(out: &mut [u8], at: usize, number: usize, place: usize) -> usize
-    requires { ⌜ (at ≤ length (now out)) × (64 ≤ length (now out)) ⌝ }
-    ensures { λ r. ⌜ r ≤ length (now (out .entry)) ⌝ }
-{
-    let mut to = put_all(out, at, b"refused");
-    to = put_next(out, to, number as u64);
-    put_next(out, to, place as u64)
 }
 
 // A number in at least so many hexadecimal digits.
@@ -89,21 +63,12 @@ fn put_digits(out: &mut [u8], at: usize, n: u64, width: usize) -> usize
     put_all(out, at, &digits[..k])
 }
 
-// A blank and 16 hexadecimal digits.
-pub fn put_hex(out: &mut [u8], at: usize, n: u64) -> usize
-    requires { ⌜ (at ≤ length (now out)) × (64 ≤ length (now out)) ⌝ }
-    ensures { λ r. ⌜ r ≤ length (now (out .entry)) ⌝ }
-{
-    let to = put_all(out, at, b" ");
-    put_digits(out, to, n, 16)
-}
-
 fn wide(b: u8) -> u64 {
     b as u64
 }
 
 // Two hexadecimal digits for each byte.
-pub fn put_bytes(out: &mut [u8], at: usize, bytes: &[u8]) -> usize
+fn put_bytes(out: &mut [u8], at: usize, bytes: &[u8]) -> usize
     requires { ⌜ (at ≤ length (now out)) × (64 ≤ length (now out)) ⌝ }
     ensures { λ r. ⌜ r ≤ length (now (out .entry)) ⌝ }
 {
@@ -116,9 +81,84 @@ pub fn put_bytes(out: &mut [u8], at: usize, bytes: &[u8]) -> usize
     to
 }
 
-// What is left in the buffer is written out.
-pub fn flush(out: &[u8], at: usize)
+fn flush(out: &[u8], at: usize)
     requires { ⌜ at ≤ length (now out) ⌝ }
 {
     io::write_all(1, &out[0..at]);
+}
+
+// ── lines ──
+
+// As many of a line's numbers as it has, with blanks between.
+fn put_numbers(out: &mut [u8], at: usize, line: Line) -> usize
+    requires { ⌜ (at ≤ length (now out)) × (64 ≤ length (now out)) ⌝ }
+    ensures { λ r. ⌜ r ≤ length (now (out .entry)) ⌝ }
+{
+    if line.count < 1 {
+        return at;
+    }
+    let first = put_number(out, at, line.a);
+    if line.count < 2 {
+        return first;
+    }
+    let second = put_next(out, first, line.b);
+    if line.count < 3 {
+        return second;
+    }
+    let third = put_next(out, second, line.c);
+    if line.count < 4 {
+        return third;
+    }
+    put_next(out, third, line.d)
+}
+
+// A blank and 16 hexadecimal digits, where the line ends in a hash.
+fn put_hash(out: &mut [u8], at: usize, line: Line) -> usize
+    requires { ⌜ (at ≤ length (now out)) × (64 ≤ length (now out)) ⌝ }
+    ensures { λ r. ⌜ r ≤ length (now (out .entry)) ⌝ }
+{
+    if line.hashed {
+        let to = words::put(out, at, words::BLANK);
+        return put_digits(out, to, line.hash, 16);
+    }
+    at
+}
+
+fn put_line(out: &mut [u8], line: Line) -> usize
+    requires { ⌜ 64 ≤ length (now out) ⌝ }
+    ensures { λ r. ⌜ r ≤ length (now (out .entry)) ⌝ }
+{
+    let mut to = words::put(out, 0, line.word);
+    to = put_numbers(out, to, line);
+    to = words::put(out, to, line.last);
+    put_hash(out, to, line)
+}
+
+// Writes what stands in a line up to now.
+pub fn tell(line: Line) {
+    let mut out = [0u8; 256];
+    let to = put_line(&mut out, line);
+    flush(&out, to);
+}
+
+// Writes a line, or the rest of one, and its end.
+pub fn say(line: Line) {
+    let mut out = [0u8; 256];
+    let to = put_line(&mut out, line);
+    let end = words::put(&mut out, to, words::NEWLINE);
+    flush(&out, end);
+}
+
+// Writes these bytes, two hexadecimal digits for each.
+pub fn tell_bytes(bytes: &[u8]) {
+    let mut out = [0u8; 4096];
+    let to = put_bytes(&mut out, 0, bytes);
+    flush(&out, to);
+}
+
+// Writes a blank and the word for a kind.
+pub fn tell_kind(kind: u64) {
+    let mut out = [0u8; 64];
+    let to = lines_items::put_kind(&mut out, 0, kind);
+    flush(&out, to);
 }

@@ -1,17 +1,15 @@
 use mathlib.Core.Path.{_≡_}
-use Prim.Native.Nat.{_≤_}
 use lib.ListN.{length}
 use borrow.Author.Needs.{needs}
 use Rattle.answers.proofs.run.Statement.{statement}
 use Rattle.answers.proofs.run.Tie as tie
 
 abbrev Inv-loop : tie.InvT-loop
-Inv-loop text₀ table₀ window₀ value₀ out₀ at₀ left₀ text table window value out at left =
-    (at ≤ length out) × (64 ≤ length out) × (length out ≡ length out₀) × (length text ≡ length text₀) × (length table ≡ length table₀)
-    × (length window ≡ length window₀) × (length value ≡ length value₀) × Unit {0}
+Inv-loop text₀ table₀ window₀ left₀ text table window left =
+    (length text ≡ length text₀) × (length table ≡ length table₀) × (length window ≡ length window₀) × Unit {0}
 
 abbrev μ-loop : tie.MeasureT-loop
-μ-loop text₀ table₀ window₀ value₀ out₀ at₀ left₀ text table window value out at left = left
+μ-loop text₀ table₀ window₀ left₀ text table window left = left
 
 pub run-spec : {M : Type 1} → statement M
 run-spec =
@@ -27,13 +25,8 @@ run-spec =
     (λ c. search needs)
     (λ c. search needs)
     (λ c. search needs)
-    (λ c. search needs)
-    (λ c. search needs)
     (λ c κs. search needs)
-    (λ c. search needs)
-    (λ c. search needs)
-    (λ c. search needs)
-    (λ c. search needs)
+    (λ c κs. search needs)
     (λ c. search needs)
     (λ c. search needs)
     (λ c. search needs)

@@ -1,15 +1,14 @@
-use mathlib.Core.Path.{_≡_}
-use Prim.Native.Nat.{_≤_, _<_, _-_}
+use Prim.Native.Nat.{_≤_, _-_}
 use lib.ListN.{length}
 use borrow.Author.Needs.{needs}
 use Rattle.answers.proofs.leaves.attributes.Statement.{statement}
 use Rattle.answers.proofs.leaves.attributes.Tie as tie
 
 abbrev Inv-loop : tie.InvT-loop
-Inv-loop s from out₀ at i₀ to₀ out i to = (i ≤ length s) × (to ≤ length out) × (64 ≤ length out) × (length out ≡ length out₀) × Unit {0}
+Inv-loop s from i₀ i = i ≤ length s
 
 abbrev μ-loop : tie.MeasureT-loop
-μ-loop s from out₀ at i₀ to₀ out i to = length s - i
+μ-loop s from i₀ i = length s - i
 
 pub attributes-spec : {M : Type 1} → statement M
 attributes-spec =
@@ -19,10 +18,8 @@ attributes-spec =
     (λ c. search needs)
     (λ c κs. search needs)
     (λ c. search needs)
-    (λ c. search needs)
     (λ c κs. search needs)
     (λ c κs. search needs)
-    (λ c. search needs)
     (λ c. search needs)
     (λ c. search needs)
     (λ c. search needs))

@@ -1,0 +1,95 @@
+// What stands in a line: a word, up to four numbers, another word, a hash.
+
+use crate::words;
+
+pub struct Line {
+    pub on: bool, // whether another frame may follow
+    pub word: usize,
+    pub count: usize,
+    pub a: u64,
+    pub b: u64,
+    pub c: u64,
+    pub d: u64,
+    pub last: usize,
+    pub hashed: bool,
+    pub hash: u64,
+}
+
+// A word and so many of the numbers.
+fn counted(word: usize, count: usize, a: u64, b: u64, c: u64, d: u64) -> Line {
+    Line {
+        on: true,
+        word,
+        count,
+        a,
+        b,
+        c,
+        d,
+        last: words::NOTHING,
+        hashed: false,
+        hash: 0,
+    }
+}
+
+pub fn plain(word: usize) -> Line {
+    counted(word, 0, 0, 0, 0, 0)
+}
+
+pub fn one(word: usize, a: u64) -> Line {
+    counted(word, 1, a, 0, 0, 0)
+}
+
+pub fn two(word: usize, a: u64, b: u64) -> Line {
+    counted(word, 2, a, b, 0, 0)
+}
+
+pub fn three(word: usize, a: u64, b: u64, c: u64) -> Line {
+    counted(word, 3, a, b, c, 0)
+}
+
+pub fn four(word: usize, a: u64, b: u64, c: u64, d: u64) -> Line {
+    counted(word, 4, a, b, c, d)
+}
+
+pub fn refused(number: usize, place: usize) -> Line {
+    counted(words::REFUSED, 2, number as u64, place as u64, 0, 0)
+}
+
+// A frame that is cut off, beyond its limits or of another first byte.
+pub fn bad() -> Line {
+    Line {
+        on: false,
+        word: words::BAD_FRAME,
+        count: 0,
+        a: 0,
+        b: 0,
+        c: 0,
+        d: 0,
+        last: words::NOTHING,
+        hashed: false,
+        hash: 0,
+    }
+}
+
+// The line with this word behind its numbers.
+pub fn ended(line: Line, last: usize) -> Line {
+    let mut more = line;
+    more.last = last;
+    more
+}
+
+// The line with a hash at its end.
+pub fn hashed(line: Line, hash: u64) -> Line {
+    let mut more = line;
+    more.hashed = true;
+    more.hash = hash;
+    more
+}
+
+// One word or the other.
+pub fn either(first: bool, a: usize, b: usize) -> usize {
+    if first {
+        return a;
+    }
+    b
+}
