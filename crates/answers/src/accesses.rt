@@ -1,36 +1,63 @@
-// Frames that ask for writing or reading.
+// Frames that hand in a text, its table and a window: writing, reading, sessions.
 
 use crate::reads::reading;
+use crate::sessions::session;
 use crate::writes::event;
 use crate::writes::integer;
 use crate::writes::string;
-use answers_fields::Asked;
-use answers_fields::fields;
+use answers_fields::Held;
+use answers_fields::text_and_table;
+use answers_fields::window_of;
 use answers_out::lines::Line;
 use answers_out::lines::bad;
+use frames::Field;
+use frames::read_number;
 
-// The rest of a frame behind its window, by its first byte.
-fn answer(first: u8, text: &[u8], table: &[i64], asked: Asked, window: &mut [u8]) -> Line {
-    if first == b'I' {
-        return integer(text, table, asked, window);
+// The variable's number, which a session has not.
+fn variable(first: u8) -> Field {
+    if first == b'J' {
+        return Field::Is(0);
     }
-    if first == b'E' {
-        return event(text, table, asked, window);
-    }
-    if first == b'S' {
-        return string(text, table, asked, window);
-    }
-    reading(text, table, asked, window)
+    read_number()
 }
 
-// The frame `I`, `E`, `S` or `G`.
-pub fn frame(first: u8, text: &mut [u8], table: &mut [i64], window: &mut [u8]) -> Line {
-    let asked = fields(text, table, window);
-    if !asked.whole {
+// The rest of a frame behind its window, by its first byte.
+fn answer(first: u8, text: &[u8], table: &[i64], n: u64, held: Held, window: &mut [u8]) -> Line {
+    if first == b'I' {
+        return integer(text, table, n, held, window);
+    }
+    if first == b'E' {
+        return event(text, table, n, held, window);
+    }
+    if first == b'S' {
+        return string(text, table, n, held, window);
+    }
+    if first == b'J' {
+        return session(text, table, held, window);
+    }
+    reading(text, table, n, held, window)
+}
+
+// The rest of a frame behind its table.
+fn behind_table(first: u8, text: &[u8], table: &[i64], window: &mut [u8]) -> Line {
+    let Field::Is(n) = variable(first) else {
+        return bad();
+    };
+    let held = window_of(window);
+    if !held.whole {
         return bad();
     }
-    let t = asked.text;
-    let k = asked.numbers;
-    let w = asked.window;
-    answer(first, &text[0..t], &table[0..k], asked, &mut window[0..w])
+    let w = held.window;
+    answer(first, text, table, n, held, &mut window[0..w])
+}
+
+// The frame `I`, `E`, `S`, `G` or `J`. The table is read through the window's buffer.
+pub fn frame(first: u8, text: &mut [u8], table: &mut [i64], window: &mut [u8]) -> Line {
+    let described = text_and_table(text, table, window);
+    if !described.whole {
+        return bad();
+    }
+    let t = described.text;
+    let k = described.numbers;
+    behind_table(first, &text[0..t], &table[0..k], window)
 }

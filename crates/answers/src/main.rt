@@ -24,9 +24,23 @@ fn is_leaf(first: u8) -> bool {
         || first == b'M'
 }
 
-// Is it the first byte of a frame that writes or reads?
+// Is it the first byte of a frame that hands in a text, its table and a window?
 fn is_access(first: u8) -> bool {
-    first == b'I' || first == b'E' || first == b'S' || first == b'G'
+    first == b'I' || first == b'E' || first == b'S' || first == b'G' || first == b'J'
+}
+
+// The answer to a frame that begins with this byte and takes a table.
+fn with_table(first: u8, text: &mut [u8], table: &mut [i64], window: &mut [u8]) -> Line {
+    if first == b'L' {
+        return tables::frame(table, text);
+    }
+    if first == b'P' {
+        return plans::frame(text, table);
+    }
+    if is_access(first) {
+        return accesses::frame(first, text, table, window);
+    }
+    bad()
 }
 
 // The answer to the frame that begins with this byte.
@@ -34,25 +48,13 @@ fn next(first: u8, text: &mut [u8], table: &mut [i64], window: &mut [u8]) -> Lin
     if is_leaf(first) {
         return leaves::frame(first, text);
     }
-    if first == b'L' {
-        return tables::frame(table, text);
-    }
-    if first == b'P' {
-        return plans::frame(text, table);
-    }
-    if first == b'J' {
-        return sessions::frame(text, table, window);
-    }
     if first == b'K' {
         return answers_backups::frame_store(window);
     }
     if first == b'R' {
         return answers_backups::frame_read();
     }
-    if is_access(first) {
-        return accesses::frame(first, text, table, window);
-    }
-    bad()
+    with_table(first, text, table, window)
 }
 
 // Frames up to the end of the input, or to the first bad one.

@@ -2,7 +2,7 @@
 
 use access::read;
 use access_reading::Reading;
-use answers_fields::Asked;
+use answers_fields::Held;
 use answers_out::lines::Line;
 use answers_out::lines::either;
 use answers_out::lines::ended;
@@ -25,8 +25,8 @@ fn spell(bytes: &[u8]) {
 }
 
 // The answer to a frame `G`.
-pub fn reading(text: &[u8], table: &[i64], asked: Asked, window: &[u8]) -> Line {
-    let answer = read(text, table, asked.n, asked.space, asked.first, window);
+pub fn reading(text: &[u8], table: &[i64], n: u64, held: Held, window: &[u8]) -> Line {
+    let answer = read(text, table, n, held.space, held.first, window);
     match answer {
         Reading::Integer {
             negative,

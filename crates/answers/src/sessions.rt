@@ -1,8 +1,7 @@
 // Frames `J`: a session, its operations in order, each on what the one before left.
 
 use answers_fields::Held;
-use answers_fields::text_and_table;
-use answers_fields::window_of;
+use answers_fields::read_amount;
 use answers_out::lines::Line;
 use answers_out::lines::bad;
 use answers_out::lines::either;
@@ -104,15 +103,10 @@ fn integer(
     journal: &mut [u8],
     session: u64,
 ) -> Done {
-    let Byte::Is(sign) = read_byte() else {
-        return unread();
-    };
-    if 1 < sign {
+    let v = read_amount();
+    if !v.whole {
         return unread();
     }
-    let Field::Is(magnitude) = read_number() else {
-        return unread();
-    };
     let outcome = edit_integer(
         text,
         table,
@@ -122,8 +116,8 @@ fn integer(
         window,
         journal,
         session,
-        sign == 1,
-        magnitude,
+        v.negative,
+        v.magnitude,
     );
     told(outcome, session)
 }
@@ -155,8 +149,8 @@ fn event(
     told(outcome, session)
 }
 
-// `S`: the text.
-fn string(
+// `S`: the text, which is read into the lent buffer.
+fn string_by(
     text: &[u8],
     table: &[i64],
     n: u64,
@@ -164,9 +158,9 @@ fn string(
     window: &mut [u8],
     journal: &mut [u8],
     session: u64,
+    value: &mut [u8],
 ) -> Done {
-    let mut value = [0u8; 70000];
-    let part = read_part(&mut value);
+    let part = read_part(value);
     if !part.whole {
         return unread();
     }
@@ -183,6 +177,19 @@ fn string(
         &value[0..size],
     );
     told(outcome, session)
+}
+
+fn string(
+    text: &[u8],
+    table: &[i64],
+    n: u64,
+    held: Held,
+    window: &mut [u8],
+    journal: &mut [u8],
+    session: u64,
+) -> Done {
+    let mut value = [0u8; 70000];
+    string_by(text, table, n, held, window, journal, session, &mut value)
 }
 
 // An edit of this kind.
@@ -325,7 +332,7 @@ fn state(left: Left, window: &[u8], journal: &[u8]) -> Line {
 }
 
 // So many operations, and `session OUTCOMES SESSION WINDOW JOURNAL STEPS`.
-fn session(
+fn answered(
     text: &[u8],
     table: &[i64],
     held: Held,
@@ -370,10 +377,15 @@ fn count() -> usize
     n as usize
 }
 
-// The rest of a frame behind its window. The journal's buffer is as long as a frame may ask.
-fn from_journal(text: &[u8], table: &[i64], held: Held, window: &mut [u8]) -> Line {
-    let mut journal = [0u8; 70000];
-    let kept = journal_of(&mut journal);
+// The rest of a frame behind its window; the journal is read into the lent buffer.
+fn from_journal(
+    text: &[u8],
+    table: &[i64],
+    held: Held,
+    window: &mut [u8],
+    journal: &mut [u8],
+) -> Line {
+    let kept = journal_of(journal);
     if !kept.whole {
         return bad();
     }
@@ -382,7 +394,7 @@ fn from_journal(text: &[u8], table: &[i64], held: Held, window: &mut [u8]) -> Li
         return bad();
     }
     let size = kept.journal;
-    session(
+    answered(
         text,
         table,
         held,
@@ -393,18 +405,8 @@ fn from_journal(text: &[u8], table: &[i64], held: Held, window: &mut [u8]) -> Li
     )
 }
 
-// The rest of a frame `J`.
-pub fn frame(text: &mut [u8], table: &mut [i64], window: &mut [u8]) -> Line {
-    let described = text_and_table(text, table, window);
-    if !described.whole {
-        return bad();
-    }
-    let held = window_of(window);
-    if !held.whole {
-        return bad();
-    }
-    let t = described.text;
-    let k = described.numbers;
-    let w = held.window;
-    from_journal(&text[0..t], &table[0..k], held, &mut window[0..w])
+// The rest of a frame `J` behind its window. The journal's buffer is as long as a frame may ask.
+pub fn session(text: &[u8], table: &[i64], held: Held, window: &mut [u8]) -> Line {
+    let mut journal = [0u8; 70000];
+    from_journal(text, table, held, window, &mut journal)
 }

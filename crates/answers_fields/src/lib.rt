@@ -1,6 +1,8 @@
-// The fields of a frame that hands in a text, its table and a window.
+// The fields of a frame that hands in a text, its table and a window, and an int.
 
+use frames::Byte;
 use frames::Field;
+use frames::read_byte;
 use frames::read_number;
 use frames::read_numbers;
 use frames::read_part;
@@ -73,50 +75,35 @@ pub fn window_of(window: &mut [u8]) -> Held
     }
 }
 
-// All fields of a frame that asks for writing or reading: the variable's number too.
-pub struct Asked {
+// An int's sign and magnitude; and whether both were read.
+pub struct Amount {
     pub whole: bool,
-    pub text: usize,
-    pub numbers: usize,
-    pub n: u64,
-    pub space: u64,
-    pub first: u64,
-    pub window: usize,
+    pub negative: bool,
+    pub magnitude: u64,
 }
 
-fn cut_off() -> Asked
-    ensures { λ r. ⌜ (r .text ≡ 0) × (r .numbers ≡ 0) × (r .window ≡ 0) ⌝ }
-{
-    Asked {
+fn no_amount() -> Amount {
+    Amount {
         whole: false,
-        text: 0,
-        numbers: 0,
-        n: 0,
-        space: 0,
-        first: 0,
-        window: 0,
+        negative: false,
+        magnitude: 0,
     }
 }
 
-// Reads these fields. The table is read through the window's buffer.
-pub fn fields(text: &mut [u8], table: &mut [i64], window: &mut [u8]) -> Asked
-    ensures { λ r. ⌜ (r .text ≤ length (now (text .entry))) × (r .numbers ≤ length (now (table .entry))) × (r .window ≤ length (now (window .entry))) ⌝ }
-{
-    let described = text_and_table(text, table, window);
-    if !described.whole {
-        return cut_off();
-    }
-    let Field::Is(n) = read_number() else {
-        return cut_off();
+// Reads a sign, 0 or 1, and a magnitude.
+pub fn read_amount() -> Amount {
+    let Byte::Is(sign) = read_byte() else {
+        return no_amount();
     };
-    let held = window_of(window);
-    Asked {
-        whole: held.whole,
-        text: described.text,
-        numbers: described.numbers,
-        n,
-        space: held.space,
-        first: held.first,
-        window: held.window,
+    if 1 < sign {
+        return no_amount();
+    }
+    let Field::Is(magnitude) = read_number() else {
+        return no_amount();
+    };
+    Amount {
+        whole: true,
+        negative: sign == 1,
+        magnitude,
     }
 }
