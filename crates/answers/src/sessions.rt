@@ -1,7 +1,9 @@
 // Frames `J`: a session, its operations in order, each on what the one before left.
 
 use answers_fields::Held;
-use answers_fields::read_amount;
+use answers_fields::Value;
+use answers_fields::read_value;
+use answers_fields::read_variable;
 use answers_out::lines::Line;
 use answers_out::lines::bad;
 use answers_out::lines::either;
@@ -93,128 +95,98 @@ fn told(outcome: Outcome, before: u64) -> Done {
     }
 }
 
-// `I`: the sign and the magnitude.
-fn integer(
-    text: &[u8],
-    table: &[i64],
-    n: u64,
-    held: Held,
-    window: &mut [u8],
-    journal: &mut [u8],
-    session: u64,
-) -> Done {
-    let v = read_amount();
-    if !v.whole {
-        return unread();
-    }
-    let outcome = edit_integer(
-        text,
-        table,
-        n,
-        held.space,
-        held.first,
-        window,
-        journal,
-        session,
-        v.negative,
-        v.magnitude,
-    );
-    told(outcome, session)
-}
-
-// `E`: the event ID.
-fn event(
-    text: &[u8],
-    table: &[i64],
-    n: u64,
-    held: Held,
-    window: &mut [u8],
-    journal: &mut [u8],
-    session: u64,
-) -> Done {
-    let Field::Is(id) = read_number() else {
-        return unread();
-    };
-    let outcome = edit_event(
-        text,
-        table,
-        n,
-        held.space,
-        held.first,
-        window,
-        journal,
-        session,
-        id,
-    );
-    told(outcome, session)
-}
-
-// `S`: the text, which is read into the lent buffer.
-fn string_by(
-    text: &[u8],
-    table: &[i64],
-    n: u64,
-    held: Held,
-    window: &mut [u8],
-    journal: &mut [u8],
-    session: u64,
-    value: &mut [u8],
-) -> Done {
-    let part = read_part(value);
-    if !part.whole {
-        return unread();
-    }
-    let size = part.size;
-    let outcome = edit_text(
-        text,
-        table,
-        n,
-        held.space,
-        held.first,
-        window,
-        journal,
-        session,
-        &value[0..size],
-    );
-    told(outcome, session)
-}
-
-fn string(
-    text: &[u8],
-    table: &[i64],
-    n: u64,
-    held: Held,
-    window: &mut [u8],
-    journal: &mut [u8],
-    session: u64,
-) -> Done {
-    let mut value = [0u8; 70000];
-    string_by(text, table, n, held, window, journal, session, &mut value)
-}
-
-// An edit of this kind.
-fn edit(
+// An operation of this kind: a text to be written is the bytes.
+fn call(
     kind: u8,
     text: &[u8],
     table: &[i64],
+    n: u64,
     held: Held,
     window: &mut [u8],
     journal: &mut [u8],
     session: u64,
-) -> Done {
-    let Field::Is(n) = read_number() else {
-        return unread();
-    };
+    v: Value,
+    bytes: &[u8],
+) -> Outcome {
+    let space = held.space;
+    let first = held.first;
+    if kind == b'U' {
+        return undo(text, table, space, first, window, journal, session);
+    }
     if kind == b'I' {
-        return integer(text, table, n, held, window, journal, session);
+        return edit_integer(
+            text,
+            table,
+            n,
+            space,
+            first,
+            window,
+            journal,
+            session,
+            v.negative,
+            v.magnitude,
+        );
     }
     if kind == b'E' {
-        return event(text, table, n, held, window, journal, session);
+        return edit_event(
+            text,
+            table,
+            n,
+            space,
+            first,
+            window,
+            journal,
+            session,
+            v.magnitude,
+        );
     }
-    if kind == b'S' {
-        return string(text, table, n, held, window, journal, session);
+    edit_text(
+        text,
+        table,
+        n,
+        space,
+        first,
+        window,
+        journal,
+        session,
+        bytes,
+    )
+}
+
+// The next operation; a text to be written is read into the lent buffer.
+fn operation_by(
+    text: &[u8],
+    table: &[i64],
+    held: Held,
+    window: &mut [u8],
+    journal: &mut [u8],
+    session: u64,
+    buffer: &mut [u8],
+) -> Done {
+    let Byte::Is(kind) = read_byte() else {
+        return unread();
+    };
+    let Field::Is(n) = read_variable(kind) else {
+        return unread();
+    };
+    let v = read_value(kind, buffer);
+    if !v.whole {
+        return unread();
     }
-    unread()
+    let size = v.size;
+    let outcome = call(
+        kind,
+        text,
+        table,
+        n,
+        held,
+        window,
+        journal,
+        session,
+        v,
+        &buffer[0..size],
+    );
+    told(outcome, session)
 }
 
 // The next operation.
@@ -226,22 +198,8 @@ fn operation(
     journal: &mut [u8],
     session: u64,
 ) -> Done {
-    let Byte::Is(kind) = read_byte() else {
-        return unread();
-    };
-    if kind == b'U' {
-        let outcome = undo(
-            text,
-            table,
-            held.space,
-            held.first,
-            window,
-            journal,
-            session,
-        );
-        return told(outcome, session);
-    }
-    edit(kind, text, table, held, window, journal, session)
+    let mut buffer = [0u8; 70000];
+    operation_by(text, table, held, window, journal, session, &mut buffer)
 }
 
 // The steps with one more: the session value and the hashes of window and journal.

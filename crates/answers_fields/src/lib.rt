@@ -1,4 +1,4 @@
-// The fields of a frame that hands in a text, its table and a window, and an int.
+// The fields of a frame that hands in a text, its table and a window, and a value.
 
 use frames::Byte;
 use frames::Field;
@@ -75,35 +75,85 @@ pub fn window_of(window: &mut [u8]) -> Held
     }
 }
 
-// An int's sign and magnitude; and whether both were read.
-pub struct Amount {
+// What is to be written: an int's sign and magnitude, an event ID as magnitude, or how much of its buffer a text fills; and whether it was read.
+pub struct Value {
     pub whole: bool,
     pub negative: bool,
     pub magnitude: u64,
+    pub size: usize,
 }
 
-fn no_amount() -> Amount {
-    Amount {
-        whole: false,
-        negative: false,
-        magnitude: 0,
+fn number(whole: bool, negative: bool, magnitude: u64) -> Value
+    ensures { λ r. ⌜ r .size ≡ 0 ⌝ }
+{
+    Value {
+        whole,
+        negative,
+        magnitude,
+        size: 0,
     }
 }
 
-// Reads a sign, 0 or 1, and a magnitude.
-pub fn read_amount() -> Amount {
+fn read_event() -> Value
+    ensures { λ r. ⌜ r .size ≡ 0 ⌝ }
+{
+    let Field::Is(id) = read_number() else {
+        return number(false, false, 0);
+    };
+    number(true, false, id)
+}
+
+// A sign, 0 or 1, and a magnitude.
+fn read_int() -> Value
+    ensures { λ r. ⌜ r .size ≡ 0 ⌝ }
+{
     let Byte::Is(sign) = read_byte() else {
-        return no_amount();
+        return number(false, false, 0);
     };
     if 1 < sign {
-        return no_amount();
+        return number(false, false, 0);
     }
     let Field::Is(magnitude) = read_number() else {
-        return no_amount();
+        return number(false, false, 0);
     };
-    Amount {
-        whole: true,
-        negative: sign == 1,
-        magnitude,
+    number(true, sign == 1, magnitude)
+}
+
+fn read_text(buffer: &mut [u8]) -> Value
+    ensures { λ r. ⌜ r .size ≤ length (now (buffer .entry)) ⌝ }
+{
+    let part = read_part(buffer);
+    Value {
+        whole: part.whole,
+        negative: false,
+        magnitude: 0,
+        size: part.size,
     }
+}
+
+// Reads the value of a frame or an operation of this kind: `I`, `E` and `S` have one, undoing has none.
+pub fn read_value(kind: u8, buffer: &mut [u8]) -> Value
+    ensures { λ r. ⌜ r .size ≤ length (now (buffer .entry)) ⌝ }
+{
+    if kind == b'I' {
+        return read_int();
+    }
+    if kind == b'E' {
+        return read_event();
+    }
+    if kind == b'S' {
+        return read_text(buffer);
+    }
+    number(kind == b'U', false, 0)
+}
+
+// Reads the variable's number, which undoing and a session have not.
+pub fn read_variable(kind: u8) -> Field {
+    if kind == b'U' {
+        return Field::Is(0);
+    }
+    if kind == b'J' {
+        return Field::Is(0);
+    }
+    read_number()
 }
