@@ -4,12 +4,20 @@ use crate::reads::reading;
 use crate::sessions::session;
 use crate::writes::writing;
 use answers_fields::Held;
-use answers_fields::read_variable;
 use answers_fields::text_and_table;
 use answers_fields::window_of;
 use answers_out::lines::Line;
 use answers_out::lines::bad;
 use frames::Field;
+use frames::read_number;
+
+// The variable's number, which a session has not.
+fn variable(first: u8) -> Field {
+    if first == b'J' {
+        return Field::Is(0);
+    }
+    read_number()
+}
 
 // The rest of a frame behind its window, by its first byte.
 fn answer(first: u8, text: &[u8], table: &[i64], n: u64, held: Held, window: &mut [u8]) -> Line {
@@ -24,7 +32,7 @@ fn answer(first: u8, text: &[u8], table: &[i64], n: u64, held: Held, window: &mu
 
 // The rest of a frame behind its table.
 fn behind_table(first: u8, text: &[u8], table: &[i64], window: &mut [u8]) -> Line {
-    let Field::Is(n) = read_variable(first) else {
+    let Field::Is(n) = variable(first) else {
         return bad();
     };
     let held = window_of(window);

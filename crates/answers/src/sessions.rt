@@ -1,9 +1,8 @@
 // Frames `J`: a session, its operations in order, each on what the one before left.
 
+use answers_fields::Asked;
 use answers_fields::Held;
-use answers_fields::Value;
-use answers_fields::read_value;
-use answers_fields::read_variable;
+use answers_fields::read_operation;
 use answers_out::lines::Line;
 use answers_out::lines::bad;
 use answers_out::lines::either;
@@ -13,9 +12,7 @@ use answers_out::lines::one;
 use answers_out::lines::plain;
 use answers_out::tell;
 use answers_out::words;
-use frames::Byte;
 use frames::Field;
-use frames::read_byte;
 use frames::read_length;
 use frames::read_number;
 use frames::read_part;
@@ -95,25 +92,24 @@ fn told(outcome: Outcome, before: u64) -> Done {
     }
 }
 
-// An operation of this kind: a text to be written is the bytes.
+// Calls for what is asked; a text to be written is the bytes.
 fn call(
-    kind: u8,
     text: &[u8],
     table: &[i64],
-    n: u64,
+    asked: Asked,
     held: Held,
     window: &mut [u8],
     journal: &mut [u8],
     session: u64,
-    v: Value,
     bytes: &[u8],
 ) -> Outcome {
+    let n = asked.n;
     let space = held.space;
     let first = held.first;
-    if kind == b'U' {
+    if asked.kind == b'U' {
         return undo(text, table, space, first, window, journal, session);
     }
-    if kind == b'I' {
+    if asked.kind == b'I' {
         return edit_integer(
             text,
             table,
@@ -123,11 +119,11 @@ fn call(
             window,
             journal,
             session,
-            v.negative,
-            v.magnitude,
+            asked.negative,
+            asked.magnitude,
         );
     }
-    if kind == b'E' {
+    if asked.kind == b'E' {
         return edit_event(
             text,
             table,
@@ -137,7 +133,7 @@ fn call(
             window,
             journal,
             session,
-            v.magnitude,
+            asked.magnitude,
         );
     }
     edit_text(
@@ -163,27 +159,19 @@ fn operation_by(
     session: u64,
     buffer: &mut [u8],
 ) -> Done {
-    let Byte::Is(kind) = read_byte() else {
-        return unread();
-    };
-    let Field::Is(n) = read_variable(kind) else {
-        return unread();
-    };
-    let v = read_value(kind, buffer);
-    if !v.whole {
+    let asked = read_operation(buffer);
+    if !asked.whole {
         return unread();
     }
-    let size = v.size;
+    let size = asked.size;
     let outcome = call(
-        kind,
         text,
         table,
-        n,
+        asked,
         held,
         window,
         journal,
         session,
-        v,
         &buffer[0..size],
     );
     told(outcome, session)

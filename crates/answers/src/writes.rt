@@ -4,8 +4,8 @@ use access::write_event;
 use access::write_integer;
 use access::write_text;
 use access_writing::Written;
+use answers_fields::Asked;
 use answers_fields::Held;
-use answers_fields::Value;
 use answers_fields::read_value;
 use answers_out::lines::Line;
 use answers_out::lines::bad;
@@ -23,33 +23,34 @@ fn told(answer: Written) -> Line {
     }
 }
 
-// Writes a value: a text is the bytes.
+// Writes what is asked; a text is the bytes.
 fn write(
-    first: u8,
     text: &[u8],
     table: &[i64],
-    n: u64,
+    asked: Asked,
     held: Held,
     window: &mut [u8],
-    v: Value,
     bytes: &[u8],
 ) -> Written {
-    if first == b'I' {
+    let n = asked.n;
+    let space = held.space;
+    let first = held.first;
+    if asked.kind == b'I' {
         return write_integer(
             text,
             table,
             n,
-            held.space,
-            held.first,
+            space,
+            first,
             window,
-            v.negative,
-            v.magnitude,
+            asked.negative,
+            asked.magnitude,
         );
     }
-    if first == b'E' {
-        return write_event(text, table, n, held.space, held.first, window, v.magnitude);
+    if asked.kind == b'E' {
+        return write_event(text, table, n, space, first, window, asked.magnitude);
     }
-    write_text(text, table, n, held.space, held.first, window, bytes)
+    write_text(text, table, n, space, first, window, bytes)
 }
 
 // The rest of a frame behind its window: the value, of which a text is read into the lent buffer.
@@ -62,12 +63,12 @@ fn writing_by(
     window: &mut [u8],
     buffer: &mut [u8],
 ) -> Line {
-    let v = read_value(first, buffer);
-    if !v.whole {
+    let asked = read_value(first, n, buffer);
+    if !asked.whole {
         return bad();
     }
-    let size = v.size;
-    let answer = write(first, text, table, n, held, window, v, &buffer[0..size]);
+    let size = asked.size;
+    let answer = write(text, table, asked, held, window, &buffer[0..size]);
     hashed(told(answer), hash_bytes(window))
 }
 

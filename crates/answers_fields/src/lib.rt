@@ -1,4 +1,4 @@
-// The fields of a frame that hands in a text, its table and a window, and a value.
+// The fields of a frame that hands in a text, its table and a window, and what it asks.
 
 use frames::Byte;
 use frames::Field;
@@ -75,85 +75,110 @@ pub fn window_of(window: &mut [u8]) -> Held
     }
 }
 
-// What is to be written: an int's sign and magnitude, an event ID as magnitude, or how much of its buffer a text fills; and whether it was read.
-pub struct Value {
+// What is asked of a variable, by a frame or an operation of this kind: to write an int of this sign and magnitude, an event ID, which is the magnitude,
+// or a text, which fills so much of its buffer. And whether it was read.
+pub struct Asked {
     pub whole: bool,
+    pub kind: u8,
+    pub n: u64,
     pub negative: bool,
     pub magnitude: u64,
     pub size: usize,
 }
 
-fn number(whole: bool, negative: bool, magnitude: u64) -> Value
+fn cut_off() -> Asked
     ensures { λ r. ⌜ r .size ≡ 0 ⌝ }
 {
-    Value {
-        whole,
+    Asked {
+        whole: false,
+        kind: 0,
+        n: 0,
+        negative: false,
+        magnitude: 0,
+        size: 0,
+    }
+}
+
+fn number(kind: u8, n: u64, negative: bool, magnitude: u64) -> Asked
+    ensures { λ r. ⌜ r .size ≡ 0 ⌝ }
+{
+    Asked {
+        whole: true,
+        kind,
+        n,
         negative,
         magnitude,
         size: 0,
     }
 }
 
-fn read_event() -> Value
+fn read_event(n: u64) -> Asked
     ensures { λ r. ⌜ r .size ≡ 0 ⌝ }
 {
     let Field::Is(id) = read_number() else {
-        return number(false, false, 0);
+        return cut_off();
     };
-    number(true, false, id)
+    number(b'E', n, false, id)
 }
 
 // A sign, 0 or 1, and a magnitude.
-fn read_int() -> Value
+fn read_int(n: u64) -> Asked
     ensures { λ r. ⌜ r .size ≡ 0 ⌝ }
 {
     let Byte::Is(sign) = read_byte() else {
-        return number(false, false, 0);
+        return cut_off();
     };
     if 1 < sign {
-        return number(false, false, 0);
+        return cut_off();
     }
     let Field::Is(magnitude) = read_number() else {
-        return number(false, false, 0);
+        return cut_off();
     };
-    number(true, sign == 1, magnitude)
+    number(b'I', n, sign == 1, magnitude)
 }
 
-fn read_text(buffer: &mut [u8]) -> Value
+fn read_text(n: u64, buffer: &mut [u8]) -> Asked
     ensures { λ r. ⌜ r .size ≤ length (now (buffer .entry)) ⌝ }
 {
     let part = read_part(buffer);
-    Value {
+    Asked {
         whole: part.whole,
+        kind: b'S',
+        n,
         negative: false,
         magnitude: 0,
         size: part.size,
     }
 }
 
-// Reads the value of a frame or an operation of this kind: `I`, `E` and `S` have one, undoing has none.
-pub fn read_value(kind: u8, buffer: &mut [u8]) -> Value
+// Reads what is to be written to variable `n`.
+pub fn read_value(kind: u8, n: u64, buffer: &mut [u8]) -> Asked
     ensures { λ r. ⌜ r .size ≤ length (now (buffer .entry)) ⌝ }
 {
     if kind == b'I' {
-        return read_int();
+        return read_int(n);
     }
     if kind == b'E' {
-        return read_event();
+        return read_event(n);
     }
     if kind == b'S' {
-        return read_text(buffer);
+        return read_text(n, buffer);
     }
-    number(kind == b'U', false, 0)
+    cut_off()
 }
 
-// Reads the variable's number, which undoing and a session have not.
-pub fn read_variable(kind: u8) -> Field {
+// Reads an operation: `U` is alone, the others name a variable and have a value.
+pub fn read_operation(buffer: &mut [u8]) -> Asked
+    ensures { λ r. ⌜ r .size ≤ length (now (buffer .entry)) ⌝ }
+{
+    let Byte::Is(kind) = read_byte() else {
+        return cut_off();
+    };
     if kind == b'U' {
-        return Field::Is(0);
+        return number(kind, 0, false, 0);
     }
-    if kind == b'J' {
-        return Field::Is(0);
-    }
-    read_number()
+    let Field::Is(n) = read_number() else {
+        return cut_off();
+    };
+    read_value(kind, n, buffer)
 }

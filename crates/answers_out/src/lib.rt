@@ -44,15 +44,6 @@ fn put_number(out: &mut [u8], at: usize, n: u64) -> usize
     lines_items::put_number(out, to, n)
 }
 
-// A blank and a number.
-fn put_next(out: &mut [u8], at: usize, n: u64) -> usize
-    requires { ⌜ (at ≤ length (now out)) × (64 ≤ length (now out)) ⌝ }
-    ensures { λ r. ⌜ r ≤ length (now (out .entry)) ⌝ }
-{
-    let to = room(out, at);
-    lines_items::put_next(out, to, n)
-}
-
 // A number in at least so many hexadecimal digits.
 fn put_digits(out: &mut [u8], at: usize, n: u64, width: usize) -> usize
     requires { ⌜ (at ≤ length (now out)) × (64 ≤ length (now out)) ⌝ }
@@ -89,27 +80,30 @@ fn flush(out: &[u8], at: usize)
 
 // ── lines ──
 
+// A blank and a number, where there is one.
+fn put_more(out: &mut [u8], at: usize, there: bool, n: u64) -> usize
+    requires { ⌜ (at ≤ length (now out)) × (64 ≤ length (now out)) ⌝ }
+    ensures { λ r. ⌜ r ≤ length (now (out .entry)) ⌝ }
+{
+    if there {
+        let to = room(out, at);
+        return lines_items::put_next(out, to, n);
+    }
+    at
+}
+
 // As many of a line's numbers as it has, with blanks between.
 fn put_numbers(out: &mut [u8], at: usize, line: Line) -> usize
     requires { ⌜ (at ≤ length (now out)) × (64 ≤ length (now out)) ⌝ }
     ensures { λ r. ⌜ r ≤ length (now (out .entry)) ⌝ }
 {
-    if line.count < 1 {
+    if line.count == 0 {
         return at;
     }
-    let first = put_number(out, at, line.a);
-    if line.count < 2 {
-        return first;
-    }
-    let second = put_next(out, first, line.b);
-    if line.count < 3 {
-        return second;
-    }
-    let third = put_next(out, second, line.c);
-    if line.count < 4 {
-        return third;
-    }
-    put_next(out, third, line.d)
+    let mut to = put_number(out, at, line.a);
+    to = put_more(out, to, 1 < line.count, line.b);
+    to = put_more(out, to, 2 < line.count, line.c);
+    put_more(out, to, 3 < line.count, line.d)
 }
 
 // A blank and 16 hexadecimal digits, where the line ends in a hash.
