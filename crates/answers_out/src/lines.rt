@@ -1,4 +1,4 @@
-// What stands in a line: a word, up to four numbers, another word, a hash.
+// What stands in a line, in this order: a word, so many of four numbers, another word, and a hash if there is one.
 
 use crate::words;
 
@@ -31,31 +31,37 @@ fn counted(word: usize, count: usize, a: u64, b: u64, c: u64, d: u64) -> Line {
     }
 }
 
+// A word alone.
 pub fn plain(word: usize) -> Line {
     counted(word, 0, 0, 0, 0, 0)
 }
 
+// A word and a number.
 pub fn one(word: usize, a: u64) -> Line {
     counted(word, 1, a, 0, 0, 0)
 }
 
+// A word and two numbers.
 pub fn two(word: usize, a: u64, b: u64) -> Line {
     counted(word, 2, a, b, 0, 0)
 }
 
+// A word and three numbers.
 pub fn three(word: usize, a: u64, b: u64, c: u64) -> Line {
     counted(word, 3, a, b, c, 0)
 }
 
+// A word and four numbers.
 pub fn four(word: usize, a: u64, b: u64, c: u64, d: u64) -> Line {
     counted(word, 4, a, b, c, d)
 }
 
+// `refused NUMBER PLACE`
 pub fn refused(number: usize, place: usize) -> Line {
     counted(words::REFUSED, 2, number as u64, place as u64, 0, 0)
 }
 
-// A frame that is cut off, beyond its limits or of another first byte.
+// `bad frame`: one that is cut off, beyond its limits or of another first byte.
 pub fn bad() -> Line {
     Line {
         on: false,

@@ -1,4 +1,4 @@
-// The words of lines, each with its number. A word that numbers follow ends as they begin, in a blank or a sign.
+// The words of lines by their numbers. A word ends in a blank or a minus where a number follows it.
 
 use crate::put_all;
 ghost use Prim.Native.Nat.{_≤_};
@@ -15,7 +15,9 @@ pub const BAD_FRAME: usize = 3;
 pub const REFUSED: usize = 4;
 
 pub const NOT: usize = 5;
-// single readings
+
+// ── single readings ──
+
 pub const END: usize = 6;
 
 pub const GOOD: usize = 7;
@@ -37,7 +39,9 @@ pub const FORMATTING: usize = 14;
 pub const NO_FORMATTING: usize = 15;
 
 pub const NAME: usize = 16;
-// pieces
+
+// ── pieces ──
+
 pub const START: usize = 17;
 
 pub const SHORT: usize = 18;
@@ -59,7 +63,9 @@ pub const TEXT: usize = 25;
 pub const MALFORMED: usize = 26;
 
 pub const UNSUPPORTED: usize = 27;
-// plans, tables, settings
+
+// ── plans, tables, settings ──
+
 pub const PLANNED: usize = 28;
 
 pub const FOUND: usize = 29;
@@ -75,7 +81,9 @@ pub const EVENT: usize = 33;
 pub const NO_TEXT: usize = 34;
 
 pub const ACCEPTED: usize = 35;
-// sessions and backups
+
+// ── sessions and backups ──
+
 pub const SESSION: usize = 36;
 
 pub const STANDS: usize = 37;
@@ -89,6 +97,8 @@ pub const DASH: usize = 40;
 pub const STORED: usize = 41;
 
 pub const RESTORED: usize = 42;
+
+// ── the tables ──
 
 // The place of the next bar, or the end.
 fn bar(s: &[u8], from: usize) -> usize
@@ -130,7 +140,7 @@ fn begin(s: &[u8], word: usize) -> usize
     from
 }
 
-// Puts the word of this number there.
+// Puts the word of this number among these there.
 fn put_of(s: &[u8], word: usize, out: &mut [u8], at: usize) -> usize
     requires { ⌜ (at ≤ length (now out)) × (64 ≤ length (now out)) ⌝ }
     ensures { λ r. ⌜ r ≤ length (now (out .entry)) ⌝ }
@@ -140,14 +150,30 @@ fn put_of(s: &[u8], word: usize, out: &mut [u8], at: usize) -> usize
     put_all(out, at, &s[from..to])
 }
 
-// The words in the order of their numbers, a bar behind each.
+// Puts the word of this number there. The tables have the words in the order of their numbers, a bar behind each.
 pub fn put(out: &mut [u8], at: usize, word: usize) -> usize
     requires { ⌜ (at ≤ length (now out)) × (64 ≤ length (now out)) ⌝ }
     ensures { λ r. ⌜ r ≤ length (now (out .entry)) ⌝ }
 {
+    if word < START {
+        return put_of(
+            b"|\n| |bad frame|refused | not|end |characters good|characters bad | utf8|number none|number large|number |number -|formatting yes|formatting no|name |",
+            word,
+            out,
+            at,
+        );
+    }
+    if word < PLANNED {
+        return put_of(
+            b"start | short| open| refers| plain|finish |remark |refer |text |malformed|unsupported|",
+            word - START,
+            out,
+            at,
+        );
+    }
     put_of(
-        b"|\n| |bad frame|refused | not|end |characters good|characters bad | utf8|number none|number large|number |number -|formatting yes|formatting no|name |start | short| open| refers| plain|finish |remark |refer |text |malformed|unsupported|planned |found |written|integer |integer -|event |text -| accepted|session |+|.|,|-|stored |restored |",
-        word,
+        b"planned |found |written|integer |integer -|event |text -| accepted|session |+|.|,|-|stored |restored |",
+        word - PLANNED,
         out,
         at,
     )
