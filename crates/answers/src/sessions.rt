@@ -2,20 +2,17 @@
 
 use answers_fields::Asked;
 use answers_fields::Held;
+use answers_fields::journal_of;
+use answers_fields::operation_count;
 use answers_fields::read_operation;
 use answers_out::lines::Line;
 use answers_out::lines::bad;
-use answers_out::lines::either;
-use answers_out::lines::ended;
 use answers_out::lines::hashed;
 use answers_out::lines::one;
 use answers_out::lines::plain;
+use answers_out::outcomes::tell_outcomes;
 use answers_out::tell;
 use answers_out::words;
-use frames::Field;
-use frames::read_length;
-use frames::read_number;
-use frames::read_part;
 use frames::signed;
 use frames_hash::hash_bytes;
 use frames_hash::with_number;
@@ -25,35 +22,6 @@ use undo::edit_text;
 use undo::undo;
 use undo_edit::Outcome;
 ghost use Prim.Native.Nat.{_≤_};
-ghost use lib.ListN.{length};
-
-// ── the fields before the operations ──
-
-// How much of the journal's buffer is filled, and the session value; and whether both were read.
-pub struct Kept {
-    pub whole: bool,
-    pub journal: usize,
-    pub session: u64,
-}
-
-// Reads a journal and a session value.
-fn journal_of(journal: &mut [u8]) -> Kept
-    ensures { λ r. ⌜ r .journal ≤ length (now (journal .entry)) ⌝ }
-{
-    let part = read_part(journal);
-    let Field::Is(session) = read_number() else {
-        return Kept {
-            whole: false,
-            journal: 0,
-            session: 0,
-        };
-    };
-    Kept {
-        whole: part.whole,
-        journal: part.size,
-        session,
-    }
-}
 
 // ── operations ──
 
@@ -245,31 +213,6 @@ fn operations(
 
 // ── the line ──
 
-// Writes a word, and `+` or `NUMBER.PLACE` behind it.
-fn tell_outcome(word: usize, number: usize, place: usize) {
-    if number == 0 {
-        tell(ended(plain(word), words::STANDS));
-        return;
-    }
-    tell(one(word, number as u64));
-    tell(one(words::DOT, place as u64));
-}
-
-// Writes so many outcomes, with commas between; `-` if there are none.
-fn tell_outcomes(numbers: &[usize; 1000], places: &[usize; 1000], count: usize)
-    requires { ⌜ count ≤ 1000 ⌝ }
-{
-    if count == 0 {
-        tell(plain(words::DASH));
-    }
-    let mut i = 0;
-    while i < count {
-        let before = either(i == 0, words::NOTHING, words::COMMA);
-        tell_outcome(before, numbers[i], places[i]);
-        i += 1;
-    }
-}
-
 // ` SESSION WINDOW JOURNAL STEPS`, the end of the line
 fn state(left: Left, window: &[u8], journal: &[u8]) -> Line {
     tell(hashed(one(words::BLANK, left.session), hash_bytes(window)));
@@ -310,19 +253,6 @@ fn answered(
     state(left, window, journal)
 }
 
-// How many operations there are, or 1,001 where there are more than 1,000 or the count is cut off.
-fn count() -> usize
-    ensures { λ r. ⌜ r ≤ 1001 ⌝ }
-{
-    let Field::Is(n) = read_length(1000) else {
-        return 1001;
-    };
-    if 1000 < n {
-        return 1001;
-    }
-    n as usize
-}
-
 // The rest of a frame behind its window; the journal is read into the lent buffer.
 fn from_journal(
     text: &[u8],
@@ -335,7 +265,7 @@ fn from_journal(
     if !kept.whole {
         return bad();
     }
-    let asked = count();
+    let asked = operation_count();
     if 1000 < asked {
         return bad();
     }

@@ -3,6 +3,7 @@
 use frames::Byte;
 use frames::Field;
 use frames::read_byte;
+use frames::read_length;
 use frames::read_number;
 use frames::read_numbers;
 use frames::read_part;
@@ -73,6 +74,45 @@ pub fn window_of(window: &mut [u8]) -> Held
         first,
         window: part.size,
     }
+}
+
+// How much of the journal's buffer is filled, and the session value; and whether both were read.
+pub struct Kept {
+    pub whole: bool,
+    pub journal: usize,
+    pub session: u64,
+}
+
+// Reads a journal and a session value.
+pub fn journal_of(journal: &mut [u8]) -> Kept
+    ensures { λ r. ⌜ r .journal ≤ length (now (journal .entry)) ⌝ }
+{
+    let part = read_part(journal);
+    let Field::Is(session) = read_number() else {
+        return Kept {
+            whole: false,
+            journal: 0,
+            session: 0,
+        };
+    };
+    Kept {
+        whole: part.whole,
+        journal: part.size,
+        session,
+    }
+}
+
+// How many operations there are, or 1,001 where there are more than 1,000 or the count is cut off.
+pub fn operation_count() -> usize
+    ensures { λ r. ⌜ r ≤ 1001 ⌝ }
+{
+    let Field::Is(n) = read_length(1000) else {
+        return 1001;
+    };
+    if 1000 < n {
+        return 1001;
+    }
+    n as usize
 }
 
 // What is asked of a variable, by a frame or an operation of this kind: to write an int of this sign and magnitude, an event ID, which is the magnitude,

@@ -1,6 +1,7 @@
 // The lines of answers: a line is made as numbers, and written out as bytes.
 
 pub mod lines; // what stands in a line
+pub mod outcomes; // the outcomes of a session
 pub mod words; // the words of lines
 
 use lines::Line;

@@ -1,7 +1,7 @@
 use Prim.Native.Nat.{_-_}
 use borrow.Author.Needs.{needs}
-use Rattle.answers.proofs.sessions.tell_outcomes.Statement.{statement}
-use Rattle.answers.proofs.sessions.tell_outcomes.Tie as tie
+use Rattle.answers_out.proofs.outcomes.tell_outcomes.Statement.{statement}
+use Rattle.answers_out.proofs.outcomes.tell_outcomes.Tie as tie
 
 abbrev Inv-loop : tie.InvT-loop
 Inv-loop numbers places count i₀ i = Unit {0}
