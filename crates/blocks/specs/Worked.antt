@@ -99,7 +99,7 @@ bad =
     ∷ (set (set (backup whole) 510 255) 511 255, (43, 0))
     -- 44, the check being right: the number, the length (0 or 503), the flag, the padding
     ∷ (block 1 253 1 (1 ∷ 2 ∷ 3 ∷ []), (44, 0))
-    ∷ (mended (set (backup three) 5 0), (44, 0))
+    ∷ (block 0 253 1 [], (44, 0))
     ∷ (mended (set (backup full) 5 247), (44, 0))
     ∷ (block 0 253 2 (1 ∷ 2 ∷ 3 ∷ []), (44, 0))
     ∷ (mended (set (backup three) 509 1), (44, 0))

@@ -6,6 +6,7 @@ use access_kinds::is_inside;
 use access_writing::put;
 use maps::Wanted;
 use undo_entries::Begun;
+use undo_entries::HEAD;
 use undo_entries::keep;
 use undo_entries::place_for;
 ghost use mathlib.Core.Path.{_≡_};
@@ -13,9 +14,6 @@ ghost use Rattle.maps.specs.Matches.{wantedOf};
 ghost use Rattle.access_kinds.specs.Told.{settingIs, Good};
 ghost use Rattle.undo_model.specs.Sessions.{answered};
 ghost use Rattle.undo_edit.specs.Told.{outcomeOf, stateOf, windowLeft, journalLeft, editedIn};
-
-// The bytes of an entry before the old ones.
-const HEAD: usize = 8;
 
 // How many edits stand, or the refusal.
 pub enum Outcome {

@@ -16,7 +16,7 @@ const ROOM: usize = 65536;
 const MOST: u64 = 64;
 
 // The bytes of an entry before the old ones.
-const HEAD: usize = 8;
+pub const HEAD: usize = 8;
 
 // Where an entry begins, if it does.
 pub enum Begun {
