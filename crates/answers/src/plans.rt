@@ -7,8 +7,8 @@ use answers_out::lines::refused;
 use answers_out::lines::two;
 use answers_out::words;
 use frames::Field;
-use frames::signed;
 use frames_hash::hash;
+use frames_signed::signed;
 use plan::plan;
 use plan_stages::Planned;
 

@@ -1,3 +1,2 @@
--- What reading fields and hashing need.
+-- What reading fields needs.
 pub mod Kept
-pub mod Turned

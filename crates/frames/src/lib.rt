@@ -1,10 +1,10 @@
 // The fields of frames, read from standard input: bytes, and numbers that are big-endian.
 
+use frames_signed::signed;
 ghost use mathlib.Core.Path.{_≡_};
 ghost use mathlib.Core.Bool.{true};
 ghost use Prim.Native.Nat.{_+_, _*_, _≤_, _<_, _^_};
 ghost use lib.ListN.{length};
-ghost use Rattle.cdi.specs.Values.{uncomplement};
 ghost use Rattle.frames.specs.Limits.{keeps};
 
 // A number that was read, or the input ended in it or it is beyond its limit.
@@ -100,16 +100,6 @@ fn eight_at(b: &[u8], at: usize) -> u64
 {
     four(b[at], b[at + 1], b[at + 2], b[at + 3]) * 0x1_0000_0000
         + four(b[at + 4], b[at + 5], b[at + 6], b[at + 7])
-}
-
-// Two's complement.
-pub fn signed(v: u64) -> i64
-    ensures { λ r. ⌜ r ≡ uncomplement true 8 v ⌝ }
-{
-    if v < 0x8000_0000_0000_0000 {
-        return v as i64;
-    }
-    -1 - ((0xFFFF_FFFF_FFFF_FFFF - v) as i64)
 }
 
 // The numbers of a block to the front of a part of the table.

@@ -34,30 +34,11 @@ use Rattle.children.specs.declared.Part.the-variants.{Missing, Empty, From}
 use Rattle.children.proofs.Turning.{child-stands, child-start, child-deep, child-first, no-child, ask-less, long-deep, tag-high}
 use Rattle.maps.specs.declared.Wanted.{Wanted}
 use Rattle.maps.specs.declared.Wanted.the-variants as wanted
-use Rattle.maps.specs.Matches.{isEqual, wantedOf, matchOf}
+use Rattle.numbers_order.specs.Equal.{isEqual}
+use Rattle.maps.specs.Matches.{wantedOf, matchOf}
 use Rattle.children.proofs.Insides.{inside-high, inside-deep, part-inside}
 
 -- ── numbers ──
-
-module _ (n : Signed) (b : Bool) (m : ℕ) where
-  pub too-large : n .large ≡ true → false ≡ isEqual n b m
-  unfolding isEqual
-  too-large e = rw e
-
-  module _ (e : n .large ≡ false) where
-    pub another-size : (n .magnitude ≡ m → ⊥) → false ≡ isEqual n b m
-    unfolding isEqual
-    another-size f = rw (e, ne-eqb (n .magnitude) m f)
-
-    pub both-zero : n .magnitude ≡ m → m ≡ 0 → true ≡ isEqual n b m
-    unfolding isEqual
-    both-zero f g = rw (e, eq-eqb (n .magnitude) m f, eq-eqb m 0 g)
-
-    pub by-sign : n .magnitude ≡ m → (m ≡ 0 → ⊥) → Bool·beq (n .negative) b ≡ isEqual n b m
-    unfolding isEqual
-    by-sign f g = rw (e, eq-eqb (n .magnitude) m f, ne-eqb m 0 g)
-
-pub ruleset equal-numbers = (too-large, another-size, both-zero, by-sign, needs)
 
 -- a number that is held is compared as the number
 and-false : (x : Bool) → (x && false) ≡ false

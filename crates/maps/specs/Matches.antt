@@ -1,18 +1,13 @@
 -- What a property is compared with, and how.
 use mathlib.Core.List.{List}
-use mathlib.Core.Bool.{Bool, false, cond, _&&_, _||_, Bool·beq}
+use mathlib.Core.Bool.{Bool, false, cond}
 use Prim.Native.Nat.{ℕ}
-use lib.Dec.{eqb}
 use Rattle.cdi.specs.Lists.{ascii, given, same}
 use Rattle.cdi.specs.Tree.{Nodes, end}
 use Rattle.cdi.specs.Values.{withSign}
 use Rattle.cdi.specs.Access.{Value, integer, event, string, childOf}
-use Rattle.numbers.specs.declared.Signed.{Signed}
 use Rattle.maps.specs.declared.Wanted.{Wanted}
 use Rattle.maps.specs.declared.Wanted.the-variants.{Number, Event, Text}
-
-unfoldable pub isEqual : Signed → Bool → ℕ → Bool
-isEqual n b m = cond (n .large) false (eqb (n .magnitude) m && (eqb m 0 || Bool·beq (n .negative) b))
 
 unfoldable pub wantedOf : Wanted → List ℕ → Value
 wantedOf (Number b m) t = integer (withSign b m)

@@ -10,11 +10,11 @@ use children::next_child;
 use contents::is_decoded;
 use contents::own_number;
 use numbers::Number;
-use numbers::Signed;
+use numbers_order::is_equal;
 use pieces_cuts::Cut;
 ghost use mathlib.Core.Path.{_≡_};
 ghost use mathlib.Core.Bool.{false};
-ghost use Prim.Native.Nat.{_≤_, _<_, _^_};
+ghost use Prim.Native.Nat.{_≤_};
 ghost use lib.ListN.{length};
 ghost use Rattle.cdi.specs.Lists.{given, any};
 ghost use Rattle.cdi.specs.Access.{equals, properties};
@@ -22,29 +22,13 @@ ghost use Rattle.pieces_cuts.specs.Cuts.{Stands};
 ghost use Rattle.pieces_cuts.specs.declared.Kind.the-variants.{Start};
 ghost use Rattle.levels.specs.Ahead.{nameIn, here};
 ghost use Rattle.children.specs.Siblings.{ahead, contentOf, nodesIn, Inside};
-ghost use Rattle.maps.specs.Matches.{isEqual, wantedOf, matchOf, noNodes};
+ghost use Rattle.maps.specs.Matches.{wantedOf, matchOf, noNodes};
 
 // What a property is to equal: an integer, an event ID, which equals none, or the text that is handed in beside it.
 pub enum Wanted {
     Number { negative: bool, magnitude: u64 },
     Event(u64),
     Text,
-}
-
-// Is the number that was read this one? Minus zero is zero.
-fn is_equal(n: Signed, negative: bool, magnitude: u64) -> bool
-    ensures { λ r. ⌜ (r ≡ isEqual n negative magnitude) × (magnitude < 2 ^ 64) ⌝ }
-{
-    if n.large {
-        return false;
-    }
-    if n.magnitude != magnitude {
-        return false;
-    }
-    if magnitude == 0 {
-        return true;
-    }
-    n.negative == negative
 }
 
 // Does the content from this place on equal it?

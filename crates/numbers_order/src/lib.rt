@@ -2,9 +2,11 @@
 
 use numbers::Signed;
 ghost use mathlib.Core.Path.{_≡_};
+ghost use Prim.Native.Nat.{_<_, _^_};
 ghost use lib.Dec.{eqb, leb};
 ghost use lib.Signed.{leZ};
 ghost use Rattle.numbers.specs.Held.{sizeOf, nearest};
+ghost use Rattle.numbers_order.specs.Equal.{isEqual};
 
 fn is_nought(n: Signed) -> bool
     ensures { λ r. ⌜ r ≡ eqb (sizeOf n) 0 ⌝ }
@@ -47,4 +49,20 @@ pub fn is_at_most(a: Signed, b: Signed) -> bool
         return false;
     }
     is_no_larger(a, b)
+}
+
+// Is the number that was read this one? Minus zero is zero.
+pub fn is_equal(n: Signed, negative: bool, magnitude: u64) -> bool
+    ensures { λ r. ⌜ (r ≡ isEqual n negative magnitude) × (magnitude < 2 ^ 64) ⌝ }
+{
+    if n.large {
+        return false;
+    }
+    if n.magnitude != magnitude {
+        return false;
+    }
+    if magnitude == 0 {
+        return true;
+    }
+    n.negative == negative
 }

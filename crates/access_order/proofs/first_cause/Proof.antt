@@ -4,9 +4,11 @@ use Rattle.access_order.proofs.first_cause.Statement.{statement}
 use Rattle.access_order.proofs.first_cause.Tie as tie
 
 returns-5 : tie.Need-returns-5
+unfolding firstOf
 returns-5 c = search calls
 
 returns-6 : tie.Need-returns-6
+unfolding firstOf
 returns-6 c = search calls
 
 pub first-cause-spec : {M : Type 1} → statement M

@@ -110,6 +110,42 @@ ended t c =
     (λ w. short-ended _ _ _ _ _ _ (known .1) (n .0) _ (named .if1 .left) (tag .start-tag .ensures) (there .if3 .left) (fault .begin2 .ensures .0) (begun .if4 .left) _ (not-false _ (w .0 .left)) (fault .begin2 .ensures .2) (known .5) (entered .enter .ensures .0) (entered .enter .ensures .1) (entered .enter .ensures .2) (w .3) (w .4) (w .2) (w .1))
     (c .if5 .came)
 
+-- behind a leaf
+returns-2 : (t : ℕ) → element-lts.Need-returns-2 (
+  element-name-reads.Asked,
+  element-name-reads.Learnt,
+  wide-reads.Asked,
+  wide-reads.Learnt,
+  entry-of-reads.Asked,
+  entry-of-reads.Learnt,
+  begin-reads.Asked,
+  begin-reads.Learnt,
+  plain-leaf-reads.Asked,
+  plain-leaf-reads.Learnt,
+  with-leaf-reads.Asked,
+  with-leaf-reads.Learnt,
+  start-tag-reads.Asked,
+  start-tag-reads.Learnt,
+  enter-reads.Asked,
+  enter-reads.Learnt,
+  content-below t,
+  content.Post,
+  close-reads.Asked,
+  close-reads.Learnt,
+  leave-reads.Asked,
+  leave-reads.Learnt,
+) (element-at t) element.Post
+returns-2 t c =
+    let leaf = c .before .before .before in
+    let begin = leaf .before in
+    let listed = begin .before in
+    let wide = listed .before in
+    let named = wide .before .before .before in
+    let name = named .before in
+    let known = name .before .before .pre .1 in
+    let n = name .element-name .ensures in
+    leaf-read _ (wide .wide .ensures ∙ n .1 .0) (listed .entry-of .ensures) (begin .begin .ensures .0) (begin .begin .ensures .1) (begin .begin .ensures .2) (known .2) (known .5) _ (leaf .plain-leaf .ensures (c .before .if2 .taken)) (c .before .if2 .taken) _ (c .with-leaf .ensures .0) (c .with-leaf .ensures .2) _ (omega arith) (c .with-leaf .ensures .1)
+
 pub +content+element-spec : {M : Type 1} → statement M
 +content+element-spec = close μ-content μ-element (λ t. content-lts.spec (
   sort-of-reads.Asked,
@@ -254,15 +290,7 @@ pub +content+element-spec : {M : Type 1} → statement M
     let known = name .before .before .pre .1 in
     let n = name .element-name .ensures in
     (omega (arith, known .0, known .6), known .4))
-    (λ c. let leaf = c .before .before .before in
-    let begin = leaf .before in
-    let listed = begin .before in
-    let wide = listed .before in
-    let named = wide .before .before .before in
-    let name = named .before in
-    let known = name .before .before .pre .1 in
-    let n = name .element-name .ensures in
-    leaf-read _ (wide .wide .ensures ∙ n .1 .0) (listed .entry-of .ensures) (begin .begin .ensures .0) (begin .begin .ensures .1) (begin .begin .ensures .2) (known .2) (known .5) _ (leaf .plain-leaf .ensures (c .before .if2 .taken)) (c .before .if2 .taken) _ (c .with-leaf .ensures .0) (c .with-leaf .ensures .2) _ (omega arith) (c .with-leaf .ensures .1))
+    (returns-2 t)
     (λ c κs. search element-ways)
     (λ c. let tag = c .before .before in
     let named = tag .before .before .before .before .before .before .before .before .before in

@@ -6,9 +6,11 @@ use Rattle.tags_faults.proofs.inner_fault.Statement.{statement}
 use Rattle.tags_faults.proofs.inner_fault.Tie as tie
 
 returns : tie.Need-returns
+unfolding told-page tables-page
 returns c = search (by-rules, by-last, needs)
 
 returns-2 : tie.Need-returns-2
+unfolding told-page tables-page
 returns-2 c = search (by-rules, by-last, needs)
 
 pub inner-fault-spec : {M : Type 1} → statement M

@@ -1,8 +1,8 @@
 use native.Mathlib.Omega.{arith}
 use borrow.Author.Needs.{needs}
-use Rattle.frames.proofs.signed.Statement.{statement}
-use Rattle.frames.proofs.signed.Tie as tie
-use Rattle.frames.proofs.Turned.{turned, low-half, high-half}
+use Rattle.frames_signed.proofs.signed.Statement.{statement}
+use Rattle.frames_signed.proofs.signed.Tie as tie
+use Rattle.frames_signed.proofs.Turned.{turned, low-half, high-half}
 
 pub signed-spec : {M : Type 1} → statement M
 signed-spec =

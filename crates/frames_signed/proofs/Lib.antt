@@ -1,0 +1,2 @@
+-- What the sign needs.
+pub mod Turned
