@@ -82,7 +82,7 @@ too-late = refl
 
 -- ── single definitions, each by a fact of its own ──
 
--- T's group: its offset once, its members' offsets in every copy
+-- a group adds its offset once, whatever its copies add
 pub offsets-once : steps 2 (group 0 (pos 2) 3 (variable 5 0 (pos 0) 8 noItems) noItems) ≡ add (pos 2) ∷ copies 3 (add (pos 0) ∷ stand 5 3 8 ∷ [])
 unfolding all-pages
 offsets-once = refl
