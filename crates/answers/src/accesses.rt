@@ -10,6 +10,7 @@ use answers_out::lines::Line;
 use answers_out::lines::bad;
 use frames::Field;
 use frames::read_number;
+ghost use Prim.Native.Nat.{_≤_};
 
 // The variable's number, which a session has not.
 fn variable(first: u8) -> Field {
@@ -20,7 +21,9 @@ fn variable(first: u8) -> Field {
 }
 
 // The rest of a frame behind its window, by its first byte.
-fn answer(first: u8, text: &[u8], table: &[i64], n: u64, held: Held, window: &mut [u8]) -> Line {
+fn answer(first: u8, text: &[u8], table: &[i64], n: u64, held: Held, window: &mut [u8]) -> Line
+    ensures { λ r. ⌜ r .count ≤ 4 ⌝ }
+{
     if first == b'J' {
         return session(text, table, held, window);
     }
@@ -31,7 +34,9 @@ fn answer(first: u8, text: &[u8], table: &[i64], n: u64, held: Held, window: &mu
 }
 
 // The rest of a frame behind its table.
-fn behind_table(first: u8, text: &[u8], table: &[i64], window: &mut [u8]) -> Line {
+fn behind_table(first: u8, text: &[u8], table: &[i64], window: &mut [u8]) -> Line
+    ensures { λ r. ⌜ r .count ≤ 4 ⌝ }
+{
     let Field::Is(n) = variable(first) else {
         return bad();
     };
@@ -44,7 +49,9 @@ fn behind_table(first: u8, text: &[u8], table: &[i64], window: &mut [u8]) -> Lin
 }
 
 // The frame `I`, `E`, `S`, `G` or `J`. The table is read through the window's buffer.
-pub fn frame(first: u8, text: &mut [u8], table: &mut [i64], window: &mut [u8]) -> Line {
+pub fn frame(first: u8, text: &mut [u8], table: &mut [i64], window: &mut [u8]) -> Line
+    ensures { λ r. ⌜ r .count ≤ 4 ⌝ }
+{
     let described = text_and_table(text, table, window);
     if !described.whole {
         return bad();

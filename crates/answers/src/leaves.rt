@@ -31,7 +31,9 @@ ghost use Prim.Native.Nat.{_≤_, _<_};
 ghost use lib.ListN.{length};
 
 // `end PLACE` or `refused 1 PLACE`
-fn ending(s: &[u8]) -> Line {
+fn ending(s: &[u8]) -> Line
+    ensures { λ r. ⌜ r .count ≤ 4 ⌝ }
+{
     let end = content_end(s);
     match end {
         End::At(place) => one(words::END, place as u64),
@@ -39,7 +41,9 @@ fn ending(s: &[u8]) -> Line {
     }
 }
 
-fn place(found: Place) -> Line {
+fn place(found: Place) -> Line
+    ensures { λ r. ⌜ r .count ≤ 4 ⌝ }
+{
     match found {
         Place::At(place) => one(words::BAD, place as u64),
         Place::Nothing => plain(words::GOOD),
@@ -47,13 +51,17 @@ fn place(found: Place) -> Line {
 }
 
 // `characters good` or `characters bad PLACE`, then whether the bytes are UTF-8 at all
-fn characters(s: &[u8]) -> Line {
+fn characters(s: &[u8]) -> Line
+    ensures { λ r. ⌜ r .count ≤ 4 ⌝ }
+{
     let line = place(bad_character(s));
     ended(line, either(is_utf8(s), words::UTF8, words::NOT))
 }
 
 // `number VALUE`, `number large` or `number none`
-fn number(s: &[u8]) -> Line {
+fn number(s: &[u8]) -> Line
+    ensures { λ r. ⌜ r .count ≤ 4 ⌝ }
+{
     let Number::Is(n) = read_number(s) else {
         return plain(words::NO_NUMBER);
     };
@@ -65,12 +73,16 @@ fn number(s: &[u8]) -> Line {
 }
 
 // `formatting yes` or `formatting no`
-fn formatting(s: &[u8]) -> Line {
+fn formatting(s: &[u8]) -> Line
+    ensures { λ r. ⌜ r .count ≤ 4 ⌝ }
+{
     plain(either(is_formatting(s), words::FORMATTING, words::NO_FORMATTING))
 }
 
 // `name ELEMENT ATTRIBUTE`
-fn name(s: &[u8]) -> Line {
+fn name(s: &[u8]) -> Line
+    ensures { λ r. ⌜ r .count ≤ 4 ⌝ }
+{
     let element = element_number(s);
     let attribute = attribute_number(s);
     two(words::NAME, element as u64, attribute as u64)
@@ -100,6 +112,7 @@ fn attributes(s: &[u8], from: usize)
 // A start tag: its name's places, its end, its form, and its attributes' places.
 fn start(s: &[u8], cut: Cut) -> Line
     requires { ⌜ cut .behind ≤ length (now s) ⌝ }
+    ensures { λ r. ⌜ r .count ≤ 4 ⌝ }
 {
     let line = three(
         words::START,
@@ -114,7 +127,9 @@ fn start(s: &[u8], cut: Cut) -> Line
 }
 
 // An end tag: its name's places and its end.
-fn finish(cut: Cut) -> Line {
+fn finish(cut: Cut) -> Line
+    ensures { λ r. ⌜ r .count ≤ 4 ⌝ }
+{
     three(
         words::FINISH,
         cut.name as u64,
@@ -126,6 +141,7 @@ fn finish(cut: Cut) -> Line {
 // The piece at a place of the content.
 fn piece(s: &[u8], place: usize) -> Line
     requires { ⌜ place < length (now s) ⌝ }
+    ensures { λ r. ⌜ r .count ≤ 4 ⌝ }
 {
     let cut = piece_at(s, place);
     let kind = cut.kind;
@@ -142,7 +158,9 @@ fn piece(s: &[u8], place: usize) -> Line
 }
 
 // The answer to a frame `C`: the piece at a place, which is read now.
-fn piece_frame(s: &[u8]) -> Line {
+fn piece_frame(s: &[u8]) -> Line
+    ensures { λ r. ⌜ r .count ≤ 4 ⌝ }
+{
     let Field::Is(place) = frames::read_number() else {
         return bad();
     };
@@ -153,7 +171,9 @@ fn piece_frame(s: &[u8]) -> Line {
 }
 
 // The answer to a frame, by its first byte.
-fn reading(first: u8, s: &[u8]) -> Line {
+fn reading(first: u8, s: &[u8]) -> Line
+    ensures { λ r. ⌜ r .count ≤ 4 ⌝ }
+{
     if first == b'C' {
         return piece_frame(s);
     }
@@ -173,7 +193,9 @@ fn reading(first: u8, s: &[u8]) -> Line {
 }
 
 // The answer to a frame that begins with bytes.
-pub fn frame(first: u8, text: &mut [u8]) -> Line {
+pub fn frame(first: u8, text: &mut [u8]) -> Line
+    ensures { λ r. ⌜ r .count ≤ 4 ⌝ }
+{
     let part = frames::read_part(text);
     if !part.whole {
         return bad();

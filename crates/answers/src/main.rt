@@ -13,6 +13,7 @@ use answers_out::lines::Line;
 use answers_out::lines::bad;
 use answers_out::say;
 use frames::Byte;
+ghost use Prim.Native.Nat.{_≤_};
 
 // Is it the first byte of a frame that begins with bytes?
 fn is_leaf(first: u8) -> bool {
@@ -30,7 +31,9 @@ fn is_access(first: u8) -> bool {
 }
 
 // The answer to a frame that begins with this byte and takes a table.
-fn with_table(first: u8, text: &mut [u8], table: &mut [i64], window: &mut [u8]) -> Line {
+fn with_table(first: u8, text: &mut [u8], table: &mut [i64], window: &mut [u8]) -> Line
+    ensures { λ r. ⌜ r .count ≤ 4 ⌝ }
+{
     if first == b'L' {
         return tables::frame(table, text);
     }
@@ -44,7 +47,9 @@ fn with_table(first: u8, text: &mut [u8], table: &mut [i64], window: &mut [u8]) 
 }
 
 // The answer to the frame that begins with this byte.
-fn next(first: u8, text: &mut [u8], table: &mut [i64], window: &mut [u8]) -> Line {
+fn next(first: u8, text: &mut [u8], table: &mut [i64], window: &mut [u8]) -> Line
+    ensures { λ r. ⌜ r .count ≤ 4 ⌝ }
+{
     if is_leaf(first) {
         return leaves::frame(first, text);
     }

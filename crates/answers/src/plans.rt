@@ -11,6 +11,7 @@ use frames_hash::hash;
 use frames_signed::signed;
 use plan::plan;
 use plan_stages::Planned;
+ghost use Prim.Native.Nat.{_≤_};
 
 // The table that is lent: number i holds -7 - i.
 fn fill(table: &mut [i64]) {
@@ -22,7 +23,9 @@ fn fill(table: &mut [i64]) {
 }
 
 // `planned RECORDS VARIABLES` or `refused NUMBER PLACE`
-fn told(answer: Planned) -> Line {
+fn told(answer: Planned) -> Line
+    ensures { λ r. ⌜ r .count ≤ 4 ⌝ }
+{
     match answer {
         Planned::Accepted { records, variables } => {
             two(words::PLANNED, records as u64, variables)
@@ -32,14 +35,18 @@ fn told(answer: Planned) -> Line {
 }
 
 // The text planned into the table, and the hash of the whole table afterwards.
-fn planned(text: &[u8], table: &mut [i64]) -> Line {
+fn planned(text: &[u8], table: &mut [i64]) -> Line
+    ensures { λ r. ⌜ r .count ≤ 4 ⌝ }
+{
     fill(table);
     let answer = plan(text, table);
     hashed(told(answer), hash(table))
 }
 
 // The answer to a frame `P`: planning a text into a table of so many numbers.
-pub fn frame(text: &mut [u8], table: &mut [i64]) -> Line {
+pub fn frame(text: &mut [u8], table: &mut [i64]) -> Line
+    ensures { λ r. ⌜ r .count ≤ 4 ⌝ }
+{
     let Field::Is(numbers) = frames::read_number() else {
         return bad();
     };

@@ -12,9 +12,13 @@ use answers_out::lines::refused;
 use answers_out::tell;
 use answers_out::tell_bytes;
 use answers_out::words;
+ghost use Prim.Native.Nat.{_≤_};
 
 // ` accepted` or ` not` at the end, by whether writing the value now would be accepted
-fn flagged(line: Line, writable: bool) -> Line {
+fn flagged(line: Line, writable: bool) -> Line
+    requires { ⌜ line .count ≤ 4 ⌝ }
+    ensures { λ r. ⌜ r .count ≤ 4 ⌝ }
+{
     ended(line, either(writable, words::ACCEPTED, words::NOT))
 }
 
@@ -25,7 +29,9 @@ fn spell(bytes: &[u8]) {
 }
 
 // The answer to a frame `G`.
-pub fn reading(text: &[u8], table: &[i64], n: u64, held: Held, window: &[u8]) -> Line {
+pub fn reading(text: &[u8], table: &[i64], n: u64, held: Held, window: &[u8]) -> Line
+    ensures { λ r. ⌜ r .count ≤ 4 ⌝ }
+{
     let answer = read(text, table, n, held.space, held.first, window);
     match answer {
         Reading::Integer {

@@ -214,7 +214,9 @@ fn operations(
 // ── the line ──
 
 // ` SESSION WINDOW JOURNAL STEPS`, the end of the line
-fn state(left: Left, window: &[u8], journal: &[u8]) -> Line {
+fn state(left: Left, window: &[u8], journal: &[u8]) -> Line
+    ensures { λ r. ⌜ r .count ≤ 4 ⌝ }
+{
     tell(hashed(one(words::BLANK, left.session), hash_bytes(window)));
     tell(hashed(plain(words::NOTHING), hash_bytes(journal)));
     hashed(plain(words::NOTHING), left.steps)
@@ -231,6 +233,7 @@ fn answered(
     count: usize,
 ) -> Line
     requires { ⌜ count ≤ 1000 ⌝ }
+    ensures { λ r. ⌜ r .count ≤ 4 ⌝ }
 {
     let mut numbers = [0usize; 1000];
     let mut places = [0usize; 1000];
@@ -260,7 +263,9 @@ fn from_journal(
     held: Held,
     window: &mut [u8],
     journal: &mut [u8],
-) -> Line {
+) -> Line
+    ensures { λ r. ⌜ r .count ≤ 4 ⌝ }
+{
     let kept = journal_of(journal);
     if !kept.whole {
         return bad();
@@ -282,7 +287,9 @@ fn from_journal(
 }
 
 // The rest of a frame `J` behind its window. The journal's buffer is as long as a frame may ask.
-pub fn session(text: &[u8], table: &[i64], held: Held, window: &mut [u8]) -> Line {
+pub fn session(text: &[u8], table: &[i64], held: Held, window: &mut [u8]) -> Line
+    ensures { λ r. ⌜ r .count ≤ 4 ⌝ }
+{
     let mut journal = [0u8; 70000];
     from_journal(text, table, held, window, &mut journal)
 }

@@ -11,9 +11,12 @@ use answers_out::words;
 use frames::Field;
 use locate::Located;
 use locate::locate;
+ghost use Prim.Native.Nat.{_≤_};
 
 // `found RECORD SPACE ADDRESS SIZE KIND`, or `refused 20 0`, `refused 21 0`
-fn located(table: &[i64], n: u64) -> Line {
+fn located(table: &[i64], n: u64) -> Line
+    ensures { λ r. ⌜ r .count ≤ 4 ⌝ }
+{
     let told = locate(table, n);
     match told {
         Located::Variable {
@@ -33,7 +36,9 @@ fn located(table: &[i64], n: u64) -> Line {
 }
 
 // The answer to a frame `L`: locating in a table.
-pub fn frame(table: &mut [i64], text: &mut [u8]) -> Line {
+pub fn frame(table: &mut [i64], text: &mut [u8]) -> Line
+    ensures { λ r. ⌜ r .count ≤ 4 ⌝ }
+{
     let part = frames::read_numbers(table, text);
     if !part.whole {
         return bad();

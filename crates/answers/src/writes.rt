@@ -14,9 +14,12 @@ use answers_out::lines::plain;
 use answers_out::lines::refused;
 use answers_out::words;
 use frames_hash::hash_bytes;
+ghost use Prim.Native.Nat.{_≤_};
 
 // `written` or `refused NUMBER PLACE`
-fn told(answer: Written) -> Line {
+fn told(answer: Written) -> Line
+    ensures { λ r. ⌜ r .count ≤ 4 ⌝ }
+{
     match answer {
         Written::Accepted => plain(words::WRITTEN),
         Written::Refused { number, place } => refused(number, place),
@@ -62,7 +65,9 @@ fn writing_by(
     held: Held,
     window: &mut [u8],
     buffer: &mut [u8],
-) -> Line {
+) -> Line
+    ensures { λ r. ⌜ r .count ≤ 4 ⌝ }
+{
     let asked = read_value(first, n, buffer);
     if !asked.whole {
         return bad();
@@ -73,14 +78,9 @@ fn writing_by(
 }
 
 // The rest of a frame `I`, `E` or `S`, and the hash of the whole window at the line's end.
-pub fn writing(
-    first: u8,
-    text: &[u8],
-    table: &[i64],
-    n: u64,
-    held: Held,
-    window: &mut [u8],
-) -> Line {
+pub fn writing(first: u8, text: &[u8], table: &[i64], n: u64, held: Held, window: &mut [u8]) -> Line
+    ensures { λ r. ⌜ r .count ≤ 4 ⌝ }
+{
     let mut buffer = [0u8; 70000];
     writing_by(first, text, table, n, held, window, &mut buffer)
 }

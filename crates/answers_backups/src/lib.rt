@@ -48,7 +48,9 @@ fn room() -> usize
 // ── the lines ──
 
 // `stored LENGTH` or `refused NUMBER PLACE`
-fn tell_stored(answer: Stored) -> Line {
+fn tell_stored(answer: Stored) -> Line
+    ensures { λ r. ⌜ r .count ≤ 4 ⌝ }
+{
     match answer {
         Stored::Size(size) => one(words::STORED, size as u64),
         Stored::Refused { number, place } => refused(number, place),
@@ -56,7 +58,9 @@ fn tell_stored(answer: Stored) -> Line {
 }
 
 // `restored LENGTH SPACE` or `refused NUMBER PLACE`
-fn tell_read(answer: Read) -> Line {
+fn tell_read(answer: Read) -> Line
+    ensures { λ r. ⌜ r .count ≤ 4 ⌝ }
+{
     match answer {
         Read::Window { size, space } => two(words::RESTORED, size as u64, space),
         Read::Refused { number, place } => refused(number, place),
@@ -65,20 +69,26 @@ fn tell_read(answer: Read) -> Line {
 
 // ── the calls: each line ends in the hash of the whole output ──
 
-fn stored(space: u64, window: &[u8], output: &mut [u8]) -> Line {
+fn stored(space: u64, window: &[u8], output: &mut [u8]) -> Line
+    ensures { λ r. ⌜ r .count ≤ 4 ⌝ }
+{
     fill(output);
     let answer = store(space, window, output);
     hashed(tell_stored(answer), hash_bytes(output))
 }
 
-fn restored(backup: &[u8], output: &mut [u8]) -> Line {
+fn restored(backup: &[u8], output: &mut [u8]) -> Line
+    ensures { λ r. ⌜ r .count ≤ 4 ⌝ }
+{
     fill(output);
     let answer = restore(backup, output);
     hashed(tell_read(answer), hash_bytes(output))
 }
 
 // The rest of a frame `K`.
-pub fn frame_store(window: &mut [u8]) -> Line {
+pub fn frame_store(window: &mut [u8]) -> Line
+    ensures { λ r. ⌜ r .count ≤ 4 ⌝ }
+{
     let mut output = [0u8; 80000];
     let Field::Is(space) = read_number() else {
         return bad();
@@ -96,7 +106,9 @@ pub fn frame_store(window: &mut [u8]) -> Line {
 }
 
 // The rest of a frame `R`.
-pub fn frame_read() -> Line {
+pub fn frame_read() -> Line
+    ensures { λ r. ⌜ r .count ≤ 4 ⌝ }
+{
     let mut backup = [0u8; 80000];
     let mut output = [0u8; 80000];
     let part = read_part(&mut backup);
