@@ -1,8 +1,8 @@
 // Frames that hand in a text, its table and a window: writing, reading, sessions.
 
-use crate::reads::reading;
 use crate::sessions::session;
-use crate::writes::writing;
+use answers_access::reads::reading;
+use answers_access::writes::writing;
 use answers_fields::Held;
 use answers_fields::text_and_table;
 use answers_fields::window_of;

@@ -2,12 +2,9 @@
 // run with `bad frame`.
 
 pub mod accesses; // writing and reading
-pub mod leaves; // single readings
 pub mod plans; // planning
-pub mod reads; // answers to reading
 pub mod sessions; // sessions with undo
 pub mod tables; // locating
-pub mod writes; // answers to writing
 
 use answers_out::lines::Line;
 use answers_out::lines::bad;
@@ -51,7 +48,7 @@ fn next(first: u8, text: &mut [u8], table: &mut [i64], window: &mut [u8]) -> Lin
     ensures { λ r. ⌜ r .count ≤ 4 ⌝ }
 {
     if is_leaf(first) {
-        return leaves::frame(first, text);
+        return answers_leaves::frame(first, text);
     }
     if first == b'K' {
         return answers_backups::frame_store(window);

@@ -1,15 +1,14 @@
 // A block judged, and one block behind the other.
 
 use backups_check::is_checked;
+use backups_parts::is_blank;
 use backups_parts::last_flag;
 use backups_parts::pair_in;
 use backups_parts::space_of;
 use values::number_in;
 ghost use mathlib.Core.Path.{_≡_};
 ghost use Prim.Native.Nat.{_*_, _≤_};
-ghost use lib.Dec.{eqb};
 ghost use lib.ListN.{length};
-ghost use Rattle.cdi.specs.Lists.{all};
 ghost use Rattle.blocks.specs.Backups.{isLengthGood, isGood, causeOf, judging, firstBad};
 ghost use Rattle.backups_judge.specs.Told.{isEndGood, badOf, judgedOf};
 
@@ -17,20 +16,6 @@ ghost use Rattle.backups_judge.specs.Told.{isEndGood, badOf, judgedOf};
 pub enum Bad {
     Nothing,
     At { number: usize, place: usize },
-}
-
-// Are all of these zero?
-fn is_blank(part: &[u8]) -> bool
-    ensures { λ r. ⌜ r ≡ all (eqb 0) (now (part .entry)) ⌝ }
-{
-    let mut i = 0;
-    while i < part.len() {
-        if part[i] != 0 {
-            return false;
-        }
-        i += 1;
-    }
-    true
 }
 
 // Is this the length of the payload of a block with so many behind it?

@@ -2,7 +2,9 @@
 
 ghost use mathlib.Core.Path.{_≡_};
 ghost use Prim.Native.Nat.{_+_, _-_, _*_, min, _<_, _≤_};
+ghost use lib.Dec.{eqb};
 ghost use lib.ListN.{length};
+ghost use Rattle.cdi.specs.Lists.{all};
 ghost use Rattle.cdi.specs.Values.{valueOf as numberOf};
 ghost use Rattle.blocks.specs.Blocks.{space};
 ghost use Rattle.blocks.specs.Backups.{lastFlag};
@@ -67,4 +69,18 @@ pub fn payload_end(from: usize, size: usize) -> usize
         return size;
     }
     from + 502
+}
+
+// Are all of these zero?
+pub fn is_blank(part: &[u8]) -> bool
+    ensures { λ r. ⌜ r ≡ all (eqb 0) (now (part .entry)) ⌝ }
+{
+    let mut i = 0;
+    while i < part.len() {
+        if part[i] != 0 {
+            return false;
+        }
+        i += 1;
+    }
+    true
 }

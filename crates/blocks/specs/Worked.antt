@@ -1,13 +1,14 @@
 -- Worked cases, by computation: windows of 2, 3, 502 and 503 bytes, each thing that can be wrong with a block, and the order of the refusals.
 use mathlib.Core.Path.{_≡_, refl}
 use mathlib.Core.List.{List, [], _∷_, _++_, map}
+use mathlib.Core.Bool.{false}
 use Prim.Native.Nat.{ℕ}
 use lib.ListN.{length, take, drop, replicate, set}
 use Rattle.cdi.specs.Lists.{lists-page}
 use Rattle.cdi.specs.Faults.{fault, Answer, accepted, refused, faults-page}
 use Rattle.cdi.specs.Values.{bytesOf, values-page}
-use Rattle.blocks.specs.Blocks.{checkOf, front, block, blocks-page}
-use Rattle.blocks.specs.Backups.{Kept, backup, storing, afterStoring, judging, reading, restoring, afterRestoring, backups-page}
+use Rattle.blocks.specs.Blocks.{checkOf, frontOf, front, block, blocks-page}
+use Rattle.blocks.specs.Backups.{Kept, outputAfter, backup, storing, afterStoring, isLengthGood, isGood, judging, reading, restoring, afterRestoring, backups-page}
 
 -- opens every page
 unfoldable pub all-pages : Unit {0}
@@ -160,3 +161,28 @@ pub refusals-left :
     × (afterRestoring (take 512 (backup more) ++ block 1 8 1 (9 ∷ [])) (replicate 503 5) ≡ replicate 503 5))
 unfolding all-pages three more
 refusals-left = (refl, (refl, refl))
+
+-- ── single definitions, each by a fact of its own ──
+
+-- 65,535 and nothing have one check
+pub sum-modulo : checkOf (255 ∷ 255 ∷ []) ≡ 0
+unfolding all-pages
+sum-modulo = refl
+
+pub from-zero : take 4 (backup three) ≡ 0 ∷ 0 ∷ 0 ∷ 0 ∷ []
+unfolding all-pages three
+from-zero = refl
+
+-- of a block of 501 bytes with one behind it
+pub full-before-last : isLengthGood 1 501 ≡ false
+unfolding all-pages
+full-before-last = refl
+
+-- the bytes before the check have all that is asked here
+pub one-space : isGood 0 0 8 (frontOf 0 7 1 (1 ∷ [])) ≡ false
+unfolding all-pages
+one-space = refl
+
+pub refusal-left : outputAfter {A = ℕ} (refused (fault 41 0)) (1 ∷ []) (5 ∷ []) ≡ 5 ∷ []
+unfolding all-pages
+refusal-left = refl

@@ -9,6 +9,7 @@ use plan_stages::Planned;
 use plan_table::FEW;
 use plan_table::MANY;
 use plan_table::MORE;
+use plan_table::has_room;
 use plan_table::put;
 use terms::FIELDS;
 use terms::TEXT_LIMIT;
@@ -55,10 +56,10 @@ fn plan_more(content: &[u8], table: &mut [i64], again: usize) -> Planned
     match told {
         Planned::Refused { number, place } => Planned::Refused { number, place },
         Planned::Accepted { records, variables } => {
-            if MORE < records {
-                return plan_many(content, table, again);
+            if has_room(&rows, records) {
+                return put(&rows, records, variables, table);
             }
-            put(&rows, records, variables, table)
+            plan_many(content, table, again)
         }
     }
 }
@@ -74,10 +75,10 @@ fn plan_few(content: &[u8], table: &mut [i64], again: usize) -> Planned
     match told {
         Planned::Refused { number, place } => Planned::Refused { number, place },
         Planned::Accepted { records, variables } => {
-            if FEW < records {
-                return plan_more(content, table, again);
+            if has_room(&rows, records) {
+                return put(&rows, records, variables, table);
             }
-            put(&rows, records, variables, table)
+            plan_more(content, table, again)
         }
     }
 }

@@ -1,14 +1,14 @@
 -- Stage 13: the rows are copied to the front of the table where they fit, and nothing else is written.
 use mathlib.Core.Path.{_≡_, refl, sym, ap, _∙_}
 use mathlib.Core.List.{List, _++_}
-use mathlib.Core.Bool.{cond}
+use mathlib.Core.Bool.{Bool, true, cond}
 use mathlib.Core.Logic.{⊎-elim}
-use Prim.Native.Nat.{ℕ, _+_, _-_, _*_, _≤_, _<_}
+use Prim.Native.Nat.{ℕ, _+_, _-_, _*_, _/_, _≤_, _<_}
 use native.Mathlib.Nat.{zero-add}
 use native.Mathlib.Numerals.{add-one}
 use native.Mathlib.Omega.{arith}
 use borrow.Author.Needs.{needs}
-use borrow.Author.Tests.{le-leb, lt-leb}
+use borrow.Author.Tests.{le-leb, lt-leb, leb-true}
 use lib.Dec.{leb}
 use lib.IntN.{ℤ, pos}
 use lib.ListN.{length, take, drop, set, getD, length-set}
@@ -23,6 +23,20 @@ use Rattle.cdi.proofs.Room.{fits, fits-table, short, short-table, refuses, refu
 use Rattle.plan_stages.specs.declared.Planned.{Planned}
 use Rattle.plan_stages.specs.declared.Planned.the-variants.{Accepted, Refused}
 use Rattle.plan_stages.specs.Outlines.{Outline, outline, outlined, outlineOf, ofMarkup, inRoom, saidOf, Few, answerOf, putOf, plannedBy, afterBy}
+
+-- ── the rows ──
+
+pub room-by-records : (n l : ℕ) → leb n (l / 8) ≡ leb (8 * n) l
+room-by-records n l = ⊎-elim
+    (λ (h : l < 8 * n). rw (lt-leb (8 * n) l h, lt-leb n (l / 8) (omega arith)))
+    (λ (h : 8 * n ≤ l). rw (le-leb (8 * n) l h, le-leb n (l / 8) (omega arith)))
+    (lt-or-le l (8 * n))
+
+pub ruleset rooms = (room-by-records, needs)
+
+-- there is room where that is said
+pub room-known : {x : Bool} {m l : ℕ} → x ≡ leb m l → x ≡ true → m ≤ l
+room-known {x} {m} {l} e h = leb-true m l (sym e ∙ h)
 
 -- ── the copy ──
 

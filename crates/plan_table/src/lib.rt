@@ -18,6 +18,13 @@ pub const MORE: usize = 1024;
 
 pub const MANY: usize = MOST_ELEMENTS;
 
+// Have the rows room for so many records?
+pub fn has_room(rows: &[i64], records: usize) -> bool
+    ensures { λ r. ⌜ r ≡ leb (8 * records) (length (now (rows .entry))) ⌝ }
+{
+    records <= rows.len() / FIELDS
+}
+
 // Puts these numbers at the front of the table.
 fn copy(rows: &[i64], table: &mut [i64])
     requires { ⌜ length (now rows) ≤ length (now table) ⌝ }

@@ -3,14 +3,15 @@ use mathlib.Core.Path.{_≡_, refl}
 use mathlib.Core.List.{List, [], _∷_, _++_, map}
 use Prim.Native.Nat.{ℕ}
 use lib.IntN.{ℤ, pos}
-use lib.ListN.{replicate}
+use lib.ListN.{take, replicate}
 use Rattle.cdi.specs.Faults.{fault, Answer, accepted, refused}
+use Rattle.cdi.specs.Walk.{Found}
 use Rattle.cdi.specs.Planning.{tableAfter}
 use Rattle.cdi.specs.Access.{integer}
 use Rattle.cdi.specs.Worked.{all-pages, opened, textWith, T, lent}
 use Rattle.undo_model.specs.Journal.{journal-page}
 use Rattle.undo_model.specs.Sessions as S
-use Rattle.undo_model.specs.Sessions.{State, Call, edit, undo, called, after, answered, sessions-page}
+use Rattle.undo_model.specs.Sessions.{State, Edit, withEdit, withoutEdit, Call, edit, undo, called, after, answered, sessions-page}
 
 -- the answers of the calls one after the other, and the state in the end
 pub record Run : Type 0 where
@@ -77,3 +78,29 @@ cases =
 pub worked : map (λ c. c .0) cases ≡ map (λ c. c .1) cases
 unfolding all-pages opened textWith T lent journal-page sessions-page start standingOne runFrom run set cases
 worked = refl
+
+-- ── single definitions, each by a fact of its own ──
+
+-- T's variable 0
+unfoldable pub byte : Found
+byte = record { number = 2; space = 253; address = 128; size = 1; kind = 2 }
+
+unfoldable pub seven : ℕ → Edit
+seven n = record { number = n; value = integer (pos 7) }
+
+-- one edit stands, of a variable 0 of one byte
+unfoldable pub stood : State
+stood = record { session = 1; window = start 0 .window; journal = replicate 7 0 ++ (1 ∷ 0x11 ∷ replicate 9 0xAA) }
+
+-- the next entry, of a variable 5, leaves it as it is
+pub behind-the-last : take 9 (withEdit [] [] (seven 5) stood byte .journal) ≡ take 9 (stood .journal)
+unfolding all-pages journal-page sessions-page start byte seven stood
+behind-the-last = refl
+
+pub old-kept : withEdit T (tableAfter T (lent 48)) (seven 0) (start 9) byte .journal ≡ replicate 7 0 ++ (1 ∷ 0x11 ∷ [])
+unfolding all-pages opened textWith T lent journal-page sessions-page start byte seven
+old-kept = refl
+
+pub one-less : withoutEdit stood byte .session ≡ 0
+unfolding all-pages journal-page sessions-page start byte stood
+one-less = refl

@@ -9,10 +9,13 @@ returns c = search planning
 returns-2 : tie.Need-returns-2
 returns-2 c = search planning
 
+segments-requires : tie.Need-segments-requires
+segments-requires c κs = search needs
+
 pub is-plan-spec : {M : Type 1} → statement M
 is-plan-spec =
     tie.close (tie.spec
     returns
     returns-2
-    (λ c κs. search needs)
+    segments-requires
     (λ c. search planning))

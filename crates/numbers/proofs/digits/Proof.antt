@@ -10,6 +10,12 @@ Inv-loop s n₀ i₀ n i = Read s i n
 abbrev μ-loop : tie.MeasureT-loop
 μ-loop s n₀ i₀ n i = length s - i
 
+returns : tie.Need-returns Inv-loop μ-loop
+returns c = search digit-loop
+
+returns-2 : tie.Need-returns-2 Inv-loop μ-loop
+returns-2 c = search digit-loop
+
 pub digits-spec : {M : Type 1} → statement M
 digits-spec =
     tie.close (tie.spec
@@ -25,6 +31,6 @@ digits-spec =
     (λ c. search digit-loop)
     (λ c. search digit-loop)
     (λ c κs. search digit-loop)
-    (λ c. search digit-loop)
-    (λ c. search digit-loop)
+    returns
+    returns-2
     (λ c. search digit-loop))
