@@ -7,7 +7,8 @@ use fuzz::calls::LIBRARY;
 use fuzz::run::{replay, run, Mode, Until};
 use fuzz::watch::{watch, Ended, Watched};
 
-const USAGE: &str = "usage: run SECONDS SEED [end|begin|both]\n       run --replay SEED INDEX [end|begin]";
+const USAGE: &str =
+    "usage: run SECONDS SEED [end|begin|both]\n       run --cases COUNT SEED [end|begin|both]\n       run --replay SEED INDEX [end|begin]";
 
 /// A run of so many calls must have every refusal.
 const ENOUGH: u64 = 500_000;
@@ -15,26 +16,37 @@ const ENOUGH: u64 = 500_000;
 /// So long the last case of a run may take.
 const PATIENCE: Duration = Duration::from_secs(120);
 
+/// So long a run of any number of cases may take.
+const LONGEST: Duration = Duration::from_secs(3600);
+
 /// What is to be tried.
 #[derive(Clone, Copy)]
 struct Task {
-    seconds: u64,
+    until: Until,
     seed: u64,
     mode: Mode,
 }
 
 impl Task {
     fn of(words: &[&str]) -> Option<Task> {
-        let (seconds, seed, mode) = match words {
-            [seconds, seed] => (seconds, seed, Mode::Both),
-            [seconds, seed, mode] => (seconds, seed, Mode::of_name(mode)?),
+        let (until, rest) = match words {
+            ["--cases", count, rest @ ..] => (Until::Cases(count.parse().ok()?), rest),
+            [seconds, rest @ ..] => (Until::Time(Duration::from_secs(seconds.parse().ok()?)), rest),
+            [] => return None,
+        };
+        let (seed, mode) = match rest {
+            [seed] => (seed, Mode::Both),
+            [seed, mode] => (seed, Mode::of_name(mode)?),
             _ => return None,
         };
-        Some(Task { seconds: seconds.parse().ok()?, seed: seed.parse().ok()?, mode })
+        Some(Task { until, seed: seed.parse().ok()?, mode })
     }
 
-    fn time(self) -> Duration {
-        Duration::from_secs(self.seconds)
+    fn longest(self) -> Duration {
+        match self.until {
+            Until::Time(time) => time + PATIENCE,
+            Until::Cases(_) => LONGEST,
+        }
     }
 
     fn tell_how_to_replay(self, index: u64) {
@@ -47,7 +59,7 @@ impl Task {
 fn try_all(task: Task) -> ExitCode {
     let watched = Watched::open().expect("the watched file can be opened");
     let begins = |index| watched.iter().for_each(|watched| watched.begins(index));
-    let (tally, time, found) = run(&LIBRARY, task.seed, task.mode, Until::Time(task.time()), begins);
+    let (tally, time, found) = run(&LIBRARY, task.seed, task.mode, task.until, begins);
     println!("seed {}, mode {}", task.seed, task.mode.name());
     tally.lines(time.as_secs_f64()).iter().for_each(|line| println!("{line}"));
     if let Some(found) = found {
@@ -68,11 +80,10 @@ fn try_all(task: Task) -> ExitCode {
     }
 }
 
-/// Starts the run and watches it.
-fn start(task: Task) -> std::io::Result<ExitCode> {
-    let words = [task.seconds.to_string(), task.seed.to_string(), task.mode.name().to_string()];
+/// Starts the run that these words ask for and watches it.
+fn start(words: &[&str], task: Task) -> std::io::Result<ExitCode> {
     let mut command = Command::new(std::env::current_exe()?);
-    let index = match watch(command.arg("--try").args(words), task.time() + PATIENCE)? {
+    let index = match watch(command.arg("--try").args(words), task.longest())? {
         Ended::Status(0) => return Ok(ExitCode::SUCCESS),
         Ended::Status(_) => return Ok(ExitCode::FAILURE),
         Ended::Signal { signal, index } => {
@@ -109,7 +120,7 @@ fn asked(words: &[&str]) -> Option<std::io::Result<ExitCode>> {
         ["--replay", seed, index, mode] => {
             Some(Ok(again(seed.parse().ok()?, index.parse().ok()?, Mode::of_name(mode)?)))
         }
-        _ => Some(start(Task::of(words)?)),
+        _ => Some(start(words, Task::of(words)?)),
     }
 }
 

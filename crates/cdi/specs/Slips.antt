@@ -82,8 +82,13 @@ too-late = refl
 
 -- ── single definitions, each by a fact of its own ──
 
--- a group adds its offset once, whatever its copies add
-pub offsets-once : steps 2 (group 0 (pos 2) 3 (variable 5 0 (pos 0) 8 noItems) noItems) ≡ add (pos 2) ∷ copies 3 (add (pos 0) ∷ stand 5 3 8 ∷ [])
+-- two numbers that are their own ranks
+pub place-alone : least (fault 2 30 ∷ fault 5 20 ∷ []) ≡ some (fault 5 20)
+unfolding all-pages
+place-alone = refl
+
+-- a group adds its offset once, whatever its copies add, and where there are none
+pub offsets-once : steps 2 (group 0 (pos 2) 0 (variable 5 0 (pos 0) 8 noItems) noItems) ≡ add (pos 2) ∷ []
 unfolding all-pages
 offsets-once = refl
 

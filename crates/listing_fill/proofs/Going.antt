@@ -16,7 +16,8 @@ use Rattle.extent.specs.Reach.{repeat, extentOf}
 use Rattle.extent.specs.declared.Extent.{Extent}
 use Rattle.extent.proofs.Joins.{extent-sound, extent-append, extent-repeat}
 use Rattle.extent.proofs.Reached.{Fits, fits-of, of-fits, past, join-first, join-second, arrives, extent-change}
-use Rattle.locate_plan.specs.Judging.{elementExtent, goodIn, itemsExtent}
+use Rattle.locate_sums.specs.Sums.{elementExtent}
+use Rattle.locate_plan.specs.Judging.{goodIn, itemsExtent}
 use Rattle.locate_ways.specs.Finding.{Site}
 use Rattle.locate_copies.specs.Choosing.{movedBy}
 use Rattle.locate_plan.proofs.Subtrees.{items-out, Same, same-steps, good-following}

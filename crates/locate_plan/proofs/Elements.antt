@@ -18,7 +18,8 @@ use Rattle.extent.specs.declared.Extent.{Extent}
 use Rattle.extent.proofs.Signed.{rise-up, fall-down}
 use Rattle.extent.proofs.Joins.{offset-sound, size-sound, join-sound, repeat-sound, extent-sound, join-nowhere, join-assoc, extent-append, extent-repeat, extent-anywhere}
 use Rattle.extent.proofs.Reached.{extent-count, extent-change, Moves, one-change, iff}
-use Rattle.locate_plan.specs.Judging.{tells, elementExtent, itemsExtent}
+use Rattle.locate_plan.specs.Judging.{itemsExtent}
+use Rattle.locate_sums.specs.Sums.{tells, elementExtent}
 
 -- ── an element before what follows it, which has number x ──
 

@@ -17,12 +17,13 @@ use Rattle.cdi.proofs.Tests.{both-left}
 use Rattle.extent.specs.Reach.{Sound, Small, nowhere, byOffset, join, repeat, extentOf}
 use Rattle.extent.specs.declared.Extent.{Extent}
 use Rattle.extent.proofs.Joins.{nowhere-sound, join-sound, extent-sound, nowhere-join, join-nowhere, join-assoc}
-use Rattle.locate_plan.specs.Judging.{limited, tells, elementExtent, addedOf, judged, goodIn, itemsExtent, testedOf}
-use Rattle.locate_plan.specs.declared.Tested.{Tested}
-use Rattle.locate_plan.specs.declared.Tested.the-variants.{Good, Bad}
+use Rattle.locate_plan.specs.Judging.{judged, goodIn, itemsExtent, testedOf}
+use Rattle.locate_sums.specs.Sums.{limited, tells, elementExtent, addedOf}
+use Rattle.locate_sums.specs.declared.Tested.{Tested}
+use Rattle.locate_sums.specs.declared.Tested.the-variants.{Good, Bad}
 use Rattle.locate_rows.proofs.Numbers.{nots}
 use Rattle.locate_plan.proofs.Subtrees.{Ranged, ranged, items-out, good-out, items-more, good-more, Same, same-steps}
-use Rattle.locate_plan.proofs.Limits.{small-of, limited-first, limited-second, limited-once}
+use Rattle.locate_sums.proofs.Limits.{small-of, limited-first, limited-second, limited-once}
 use Rattle.locate_plan.proofs.Elements.{element-join, element-sound, element-extent, items-sound, tells-told}
 
 -- ── judgements ──

@@ -20,11 +20,12 @@ use Rattle.extent.specs.Reach.{Small, extentOf, fitsAt}
 use Rattle.extent.specs.declared.Extent.{Extent}
 use Rattle.extent.proofs.Joins.{extent-anywhere}
 use Rattle.extent.proofs.Reached.{fits-of, extent-count, extent-keeps}
-use Rattle.locate_plan.specs.Judging.{limited, tells, judged, goodIn, itemsExtent, testedOf, segmentTells, plannedOf}
-use Rattle.locate_plan.specs.declared.Tested.{Tested}
-use Rattle.locate_plan.specs.declared.Tested.the-variants.{Good, Bad}
+use Rattle.locate_plan.specs.Judging.{judged, goodIn, itemsExtent, testedOf, segmentTells, plannedOf}
+use Rattle.locate_sums.specs.Sums.{limited, tells}
+use Rattle.locate_sums.specs.declared.Tested.{Tested}
+use Rattle.locate_sums.specs.declared.Tested.the-variants.{Good, Bad}
 use Rattle.locate_rows.proofs.Numbers.{nots, in-of}
-use Rattle.locate_plan.proofs.Limits.{of-limited, small-of}
+use Rattle.locate_sums.proofs.Limits.{of-limited, small-of}
 use Rattle.locate_plan.proofs.Elements.{items-sound, tells-told}
 use Rattle.locate_plan.proofs.Testing.{either, judged-bad, judged-good}
 
@@ -239,3 +240,16 @@ module _ (t : List ℤ) where
   plan-is h k e = e ∙ sym (rw (eq-eqb _ _ h, le-leb _ _ k))
 
 pub ruleset planning = (ragged, too-long, plan-is, needs)
+
+-- ── what a segment tells ──
+
+module _ (t : List ℤ) (i : ℕ) (e : Extent) {a : Bool} (fa : a ≡ tells t i e) where
+  pub segment-untold : a ≡ false → false ≡ segmentTells t i e
+  unfolding segmentTells
+  segment-untold h = sym (rw (← fa, h))
+
+  pub segment-fits-is : a ≡ true → {o : ℕ} {b : Bool} → o ≡ natural (field t i 2) → b ≡ fitsAt o e → b ≡ segmentTells t i e
+  unfolding segmentTells
+  segment-fits-is h p q = q ∙ sym (rw (← fa, h, p))
+
+pub ruleset segment-telling = (segment-untold, segment-fits-is, nots, needs)

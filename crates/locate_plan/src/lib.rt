@@ -2,27 +2,16 @@
 
 use extent::Extent;
 use extent::fits;
-use extent::joined;
-use extent::moved;
 use extent::nothing;
-use extent::repeated;
-use extent::stood;
-use locate_ranges::equals;
 use locate_ranges::item_fits;
 use locate_ranges::segment_fits;
-use locate_rows::CHANGE;
-use locate_rows::COUNT;
-use locate_rows::EXTRA;
-use locate_rows::KIND;
 use locate_rows::NEXT;
-use locate_rows::REPLICATION;
 use locate_rows::START;
-use locate_rows::fall_at;
-use locate_rows::field;
 use locate_rows::rise_at;
+use locate_sums::Tested;
+use locate_sums::added;
+use locate_sums::told;
 use terms::FIELDS;
-use terms::GROUP;
-use terms::LAST_ADDRESS;
 use terms::MOST_VARIABLES;
 ghost use mathlib.Core.Path.{_≡_};
 ghost use mathlib.Core.Bool.{true};
@@ -30,8 +19,8 @@ ghost use Prim.Native.Nat.{_≤_, _+_, _*_, _<_};
 ghost use lib.ListN.{length};
 ghost use Rattle.cdi.specs.Plans.{isPlan, field, itemFits, segmentFits};
 ghost use Rattle.cdi.specs.Rules.{natural};
-ghost use Rattle.extent.specs.Reach.{Small, held};
-ghost use Rattle.locate_plan.specs.Judging.{limited, tells, elementExtent, addedOf, testedOf, segmentTells, plannedOf};
+ghost use Rattle.extent.specs.Reach.{Small};
+ghost use Rattle.locate_plan.specs.Judging.{testedOf, segmentTells, plannedOf};
 
 // "it has at most 4,095 records"
 const MOST_RECORDS: usize = 4095;
@@ -55,69 +44,6 @@ pub fn is_plan(table: &[i64]) -> bool
 const MEMBERS: u64 = 3;
 
 const DEEPEST: u64 = terms::DEEPEST as u64;
-
-// Records that pass, with the extent of their walk, or records that make the table no plan.
-pub enum Tested {
-    Good(Extent),
-    Bad,
-}
-
-// Whether the extent keeps the limits of addresses, from some start, and of variables.
-fn limited(e: Extent) -> bool
-    ensures { λ r. ⌜ r ≡ limited e ⌝ }
-{
-    if LAST_ADDRESS < e.span {
-        return false;
-    }
-    e.count <= MOST_VARIABLES
-}
-
-// The extent of the element of record `i`, from that of its members.
-fn element(table: &[i64], i: usize, members: Extent) -> Extent
-    requires { ⌜ (i * 8 + 8 ≤ length (now table)) × (1 ≤ natural (field (now table) i 4)) × (natural (field (now table) i 4) ≤ 2147483647) × Small members ⌝ }
-    ensures { λ r. ⌜ (r ≡ held (elementExtent (now (table .entry)) i members)) × Small r ⌝ }
-{
-    let own = moved(field(table, i, START));
-    let kind = rise_at(table, i, KIND);
-    if kind == GROUP {
-        let copies = repeated(rise_at(table, i, REPLICATION), members);
-        return joined(own, copies);
-    }
-    let variable = stood(rise_at(table, i, EXTRA));
-    joined(own, variable)
-}
-
-// Whether the last two numbers of record `i` are what this extent says.
-fn told(table: &[i64], i: usize, e: Extent) -> bool
-    requires { ⌜ (i * 8 + 8 ≤ length (now table)) × Small e ⌝ }
-    ensures { λ r. ⌜ r ≡ tells (now (table .entry)) i e ⌝ }
-{
-    if !equals(table, i, COUNT, e.count) {
-        return false;
-    }
-    let up = rise_at(table, i, CHANGE);
-    let down = fall_at(table, i, CHANGE);
-    up + e.below == down + e.ends
-}
-
-// The extent of what stands before record `i` and of its element, which keeps the limits and is told.
-fn added(table: &[i64], i: usize, members: Extent, before: Extent) -> Tested
-    requires { ⌜ (i * 8 + 8 ≤ length (now table)) × (1 ≤ natural (field (now table) i 4)) × (natural (field (now table) i 4) ≤ 2147483647) × Small members × Small before ⌝ }
-    ensures { λ r. ⌜ r ≡ addedOf (now (table .entry)) i members before ⌝ }
-{
-    let own = element(table, i, members);
-    if !limited(own) {
-        return Tested::Bad;
-    }
-    if !told(table, i, own) {
-        return Tested::Bad;
-    }
-    let whole = joined(before, own);
-    if !limited(whole) {
-        return Tested::Bad;
-    }
-    Tested::Good(whole)
-}
 
 // The number of the record after the subtree of data element `i`.
 fn item_next(table: &[i64], i: usize, end: usize) -> usize

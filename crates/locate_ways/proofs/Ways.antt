@@ -27,7 +27,8 @@ use Rattle.extent.proofs.Signed.{rise-up, fall-down}
 use Rattle.extent.proofs.Joins.{offset-sound, repeat-sound, extent-sound, extent-append}
 use Rattle.extent.proofs.Reached.{Fits, fits-of, of-fits, past, join-first, join-second, Moves, offset-moves, arrives, extent-change}
 use Rattle.extent.proofs.Holding.{by-offset}
-use Rattle.locate_plan.specs.Judging.{elementExtent, goodIn, itemsExtent}
+use Rattle.locate_sums.specs.Sums.{elementExtent}
+use Rattle.locate_plan.specs.Judging.{goodIn, itemsExtent}
 use Rattle.locate_ways.specs.Finding.{answer, insideOf, standing, Finds, Site}
 use Rattle.locate_copies.specs.Choosing.{movedBy, allRise, allFall, eachOf, copyAt, copyOf, Chosen}
 use Rattle.locate_copies.specs.declared.Copied.{Copied}

@@ -8,7 +8,7 @@ use Rattle.locate_plan.proofs.items.Reads as items
 use Rattle.locate_plan.proofs.items.Kinds as items-kinds
 use Rattle.locate_plan.proofs.+items.Lts-items as items-lts
 use Rattle.extent.proofs.nothing.Reads as nothing-reads
-use Rattle.locate_plan.proofs.added.Reads as added-reads
+use Rattle.locate_sums.proofs.added.Reads as added-reads
 use Rattle.locate_plan.proofs.item_next.Reads as item-next-reads
 use Rattle.locate_ranges.proofs.item_fits.Reads as item-fits-reads
 use Rattle.locate_plan.proofs.+items.{statement}

@@ -1,5 +1,5 @@
 use borrow.Author.Needs.{needs}
-use Rattle.locate_plan.proofs.Limits.{segment-telling}
+use Rattle.locate_plan.proofs.Tops.{segment-telling}
 use Rattle.locate_plan.proofs.segment_told.Statement.{statement}
 use Rattle.locate_plan.proofs.segment_told.Tie as tie
 

@@ -15,13 +15,13 @@ use Rattle.cdi.specs.Rules.{natural}
 use Rattle.cdi.specs.Table.{sameNumber}
 use Rattle.cdi.specs.Plans.{field}
 use Rattle.cdi.proofs.Tests.{parts, both}
-use Rattle.extent.specs.Reach.{Sound, Small, byOffset, bySize, join, repeat, fitsAt, held, tooWide}
+use Rattle.extent.specs.Reach.{Sound, Small, byOffset, bySize, join, repeat, held, tooWide}
 use Rattle.extent.specs.declared.Extent.{Extent}
 use Rattle.extent.proofs.Signed.{read, read-is}
 use Rattle.extent.proofs.Reached.{iff}
 use Rattle.extent.proofs.Holding.{wide-held, plain-held, held-join}
-use Rattle.locate_plan.specs.Judging.{limited, tells, elementExtent, addedOf, segmentTells}
-use Rattle.locate_plan.specs.declared.Tested.the-variants.{Good, Bad}
+use Rattle.locate_sums.specs.Sums.{limited, tells, elementExtent, addedOf}
+use Rattle.locate_sums.specs.declared.Tested.the-variants.{Good, Bad}
 use Rattle.locate_rows.proofs.Numbers.{nots}
 
 pub record Limited (e : Extent) : Type 0 where
@@ -148,15 +148,3 @@ module _ (t : List ℤ) (i : ℕ) (m before : Extent) {own : Extent} (e : own �
           (ap Good (sym (held-is (join before (elementExtent t i m)) (sym whole-limited ∙ h)) ∙ rw (← own-is, ← g))))
 
 pub ruleset adding = (added-wide, added-untold, added-far, added-is, nots, needs)
-
--- a segment
-module _ (t : List ℤ) (i : ℕ) (e : Extent) {a : Bool} (fa : a ≡ tells t i e) where
-  pub segment-untold : a ≡ false → false ≡ segmentTells t i e
-  unfolding segmentTells
-  segment-untold h = sym (rw (← fa, h))
-
-  pub segment-fits-is : a ≡ true → {o : ℕ} {b : Bool} → o ≡ natural (field t i 2) → b ≡ fitsAt o e → b ≡ segmentTells t i e
-  unfolding segmentTells
-  segment-fits-is h p q = q ∙ sym (rw (← fa, h, p))
-
-pub ruleset segment-telling = (segment-untold, segment-fits-is, nots, needs)

@@ -1,7 +1,7 @@
 use borrow.Author.Needs.{needs}
-use Rattle.locate_plan.proofs.Limits.{elements}
-use Rattle.locate_plan.proofs.element.Statement.{statement}
-use Rattle.locate_plan.proofs.element.Tie as tie
+use Rattle.locate_sums.proofs.Limits.{elements}
+use Rattle.locate_sums.proofs.element.Statement.{statement}
+use Rattle.locate_sums.proofs.element.Tie as tie
 
 pub element-spec : {M : Type 1} → statement M
 element-spec =

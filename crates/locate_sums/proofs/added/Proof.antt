@@ -1,7 +1,7 @@
 use borrow.Author.Needs.{needs}
-use Rattle.locate_plan.proofs.Limits.{adding}
-use Rattle.locate_plan.proofs.added.Statement.{statement}
-use Rattle.locate_plan.proofs.added.Tie as tie
+use Rattle.locate_sums.proofs.Limits.{adding}
+use Rattle.locate_sums.proofs.added.Statement.{statement}
+use Rattle.locate_sums.proofs.added.Tie as tie
 
 pub added-spec : {M : Type 1} → statement M
 added-spec =

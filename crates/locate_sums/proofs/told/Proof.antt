@@ -1,7 +1,7 @@
 use borrow.Author.Needs.{needs}
-use Rattle.locate_plan.proofs.Limits.{telling}
-use Rattle.locate_plan.proofs.told.Statement.{statement}
-use Rattle.locate_plan.proofs.told.Tie as tie
+use Rattle.locate_sums.proofs.Limits.{telling}
+use Rattle.locate_sums.proofs.told.Statement.{statement}
+use Rattle.locate_sums.proofs.told.Tie as tie
 
 pub told-spec : {M : Type 1} → statement M
 told-spec =
