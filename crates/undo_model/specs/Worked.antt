@@ -83,7 +83,7 @@ worked = refl
 
 -- T's variable 0
 unfoldable pub byte : Found
-byte = record { number = 2; space = 253; address = 128; size = 1; kind = 2 }
+byte = record { number = 1; space = 253; address = 128; size = 1; kind = 3 }
 
 unfoldable pub seven : ℕ → Edit
 seven n = record { number = n; value = integer (pos 7) }
