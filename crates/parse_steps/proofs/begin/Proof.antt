@@ -8,8 +8,8 @@ returns-2 c = search begin-ways
 returns-4 : tie.Need-returns-4
 returns-4 c = search begin-ways
 
-returns-6 : tie.Need-returns-6
-returns-6 c = search begin-ways
+returns-5 : tie.Need-returns-5
+returns-5 c = search begin-ways
 
 pub begin-spec : {M : Type 1} → statement M
 begin-spec =
@@ -18,5 +18,5 @@ begin-spec =
     returns-2
     (λ c. search begin-ways)
     returns-4
-    (λ c. search begin-ways)
-    returns-6)
+    returns-5
+    (λ c. search begin-ways))
