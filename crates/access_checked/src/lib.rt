@@ -15,7 +15,7 @@ use plan_table::{FEW, MANY, MORE};
 use terms::{FIELDS, TEXT_LIMIT};
 
 // The end of the text's content, where text and table are good; or the refusal.
-#[derive(Drop)]
+#[derive(Clone, Copy)]
 pub enum Checked {
     Exact(usize),
     Refused { number: usize, place: usize },

@@ -14,7 +14,7 @@ use text::is_utf8;
 use values::{Zero, first_zero};
 
 // A variable as its table and its text describe it: the number of its record, its space, address, size and kind, and its own content.
-#[derive(Drop)]
+#[derive(Clone, Copy)]
 pub struct Setting {
     pub number: usize,
     pub space: u64,

@@ -12,7 +12,7 @@ use settings::content_at;
 use terms::FIRST_LINE;
 
 // The setting, or the number of the refusal.
-#[derive(Drop)]
+#[derive(Clone, Copy)]
 pub enum Lookup {
     Is(Setting),
     Nothing(usize),

@@ -14,7 +14,7 @@ use text::is_utf8;
 use values::{Zero, first_zero, number_in, whole_in};
 
 // The value and whether writing it now would be accepted; of a text, from where to before where in the window it stands. Or the refusal.
-#[derive(Drop)]
+#[derive(Clone, Copy)]
 pub enum Reading {
     Integer {
         negative: bool,

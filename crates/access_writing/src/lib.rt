@@ -13,7 +13,7 @@ use terms::Whole;
 use values::{put_number, put_text, put_whole};
 
 // Written, or the refusal.
-#[derive(Drop)]
+#[derive(Clone, Copy)]
 pub enum Written {
     Accepted,
     Refused { number: usize, place: usize },

@@ -14,7 +14,7 @@ use undo_edit::Outcome;
 // ── operations ──
 
 // Number and place of a refusal, 0 and 0 without one, and the session value; and whether the operation was read.
-#[derive(Drop)]
+#[derive(Clone, Copy)]
 pub struct Done {
     pub whole: bool,
     pub number: usize,
@@ -147,7 +147,7 @@ fn stepped(steps: u64, session: u64, window: &[u8], journal: &[u8]) -> u64 {
 }
 
 // The session value and the steps in the end; and whether all operations were read.
-#[derive(Drop)]
+#[derive(Clone, Copy)]
 pub struct Left {
     pub whole: bool,
     pub session: u64,

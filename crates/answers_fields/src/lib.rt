@@ -5,7 +5,7 @@ ghost use Rattle.std.specs.Prelude.{◌≤◌, ◌≡◌, length};
 use frames::{Byte, Field, read_byte, read_length, read_number, read_numbers, read_part};
 
 // How much of the text's and of the table's buffer is filled; and whether both were read.
-#[derive(Drop)]
+#[derive(Clone, Copy)]
 pub struct Described {
     pub whole: bool,
     pub text: usize,
@@ -33,7 +33,7 @@ pub fn text_and_table(text: &mut [u8], table: &mut [i64], block: &mut [u8]) -> D
 }
 
 // A window's space and first address, and how much of its buffer is filled; and whether all of it was read.
-#[derive(Drop)]
+#[derive(Clone, Copy)]
 pub struct Held {
     pub whole: bool,
     pub space: u64,
@@ -72,7 +72,7 @@ pub fn window_of(window: &mut [u8]) -> Held
 }
 
 // How much of the journal's buffer is filled, and the session value; and whether both were read.
-#[derive(Drop)]
+#[derive(Clone, Copy)]
 pub struct Kept {
     pub whole: bool,
     pub journal: usize,
@@ -113,7 +113,7 @@ pub fn operation_count() -> usize
 
 // What is asked of a variable, by a frame or an operation of this kind: to write an int of this sign and magnitude, an event ID, which is the magnitude,
 // or a text, which fills so much of its buffer. And whether it was read.
-#[derive(Drop)]
+#[derive(Clone, Copy)]
 pub struct Asked {
     pub whole: bool,
     pub kind: u8,

@@ -4,7 +4,7 @@ ghost use Rattle.std.specs.Prelude.{◌≡◌, cond, ◌≤◌};
 
 use crate::words;
 
-#[derive(Drop)]
+#[derive(Clone, Copy)]
 pub struct Line {
     pub on: bool, // whether another frame may follow
     pub word: usize,

@@ -9,7 +9,7 @@ use backups_parts::{is_blank, last_flag, pair_in, space_of};
 use values::number_in;
 
 // What is wrong with a block, or with the first bad one of several; or nothing.
-#[derive(Drop)]
+#[derive(Clone, Copy)]
 pub enum Bad {
     Nothing,
     At { number: usize, place: usize },

@@ -9,7 +9,7 @@ use backups_judge::{Bad, first_bad};
 use backups_parts::{copy, pair_in, payload_end, space_of};
 
 // The number of the window's bytes and its space, or the refusal.
-#[derive(Drop)]
+#[derive(Clone, Copy)]
 pub enum Read {
     Window { size: usize, space: u64 },
     Refused { number: usize, place: usize },

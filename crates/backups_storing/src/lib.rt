@@ -8,7 +8,7 @@ use backups_block::put_block;
 use backups_parts::{last_flag, payload_end};
 
 // The number of bytes stored, or the refusal.
-#[derive(Drop)]
+#[derive(Clone, Copy)]
 pub enum Stored {
     Size(usize),
     Refused { number: usize, place: usize },

@@ -13,7 +13,7 @@ use pieces_cuts::{Cut, Kind};
 use scan::same;
 
 // What a piece does to the depth.
-#[derive(Drop)]
+#[derive(Clone, Copy)]
 pub enum Turn {
     Opens,
     Closes,
@@ -21,14 +21,14 @@ pub enum Turn {
 }
 
 // A child's place and start tag.
-#[derive(Drop)]
+#[derive(Clone, Copy)]
 pub enum Child {
     At { place: usize, tag: Cut },
     Nothing,
 }
 
 // The content of an element: none, since there is no such element; empty, by the short form; or from a place on.
-#[derive(Drop)]
+#[derive(Clone, Copy)]
 pub enum Part {
     Missing,
     Empty,

@@ -20,7 +20,7 @@ use pieces_cuts::Kind;
 use scan::begins_at;
 
 // What a piece is to a text: a run of it, a reference in it, a child, what is dropped, its end, or no piece at all.
-#[derive(Drop)]
+#[derive(Clone, Copy)]
 pub enum Role {
     Run,
     Character,
@@ -31,7 +31,7 @@ pub enum Role {
 }
 
 // One run of text and nothing else, from a place to before another.
-#[derive(Drop)]
+#[derive(Clone, Copy)]
 pub enum Own {
     Text { from: usize, to: usize },
     Not,

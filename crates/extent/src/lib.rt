@@ -11,7 +11,7 @@ use terms::{LAST_ADDRESS, MOST_VARIABLES};
 
 // The variables met, and the heights of the first, the last and the highest address. A count above 1,000,000 is 1,000,001. A stretch that
 // spans more than 2^32 fits no start: its span is 2^32 + 1, and all else 0.
-#[derive(Drop)]
+#[derive(Clone, Copy)]
 pub struct Extent {
     pub count: u64,
     pub below: u64,

@@ -6,20 +6,20 @@ ghost use Rattle.frames.specs.Limits.{keeps};
 use frames_signed::signed;
 
 // A number that was read, or the input ended in it or it is beyond its limit.
-#[derive(Drop)]
+#[derive(Clone, Copy)]
 pub enum Field {
     Is(u64),
     Bad,
 }
 
-#[derive(Drop)]
+#[derive(Clone, Copy)]
 pub enum Byte {
     Is(u8),
     End,
 }
 
 // How much of a buffer's front was filled, and whether all of the field was read.
-#[derive(Drop)]
+#[derive(Clone, Copy)]
 pub struct Filled {
     pub size: usize,
     pub whole: bool,

@@ -15,7 +15,7 @@ use keys::blame_unless;
 use numbers::{Number, read_number};
 
 // What a text says as a number, as a judge has it.
-#[derive(Drop)]
+#[derive(Clone, Copy)]
 pub struct Spoken {
     pub said: usize,
     pub magnitude: u64,

@@ -11,7 +11,7 @@ use keys::NOTHING;
 // is the last entry of the row that a child has had, counted from 1. `said` is what the content has said as a number: 0 for nothing yet, 1 for no
 // number, 2 for one out of range, 3 for one of that magnitude, 4 for a negative one. `low` and `high` are the places of an int's bounds, `smallest`
 // and `largest` their magnitudes.
-#[derive(Drop)]
+#[derive(Clone, Copy)]
 pub struct Judge {
     pub least: usize,
     pub row: usize,

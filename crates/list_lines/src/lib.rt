@@ -10,7 +10,7 @@ use lines::put_lines;
 use listing::list_known;
 
 // So many variables, and so many bytes for their lines.
-#[derive(Drop)]
+#[derive(Clone, Copy)]
 pub struct Batch {
     pub count: usize,
     pub size: usize,

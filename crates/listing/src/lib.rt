@@ -14,7 +14,7 @@ use locate_rows::{COUNT, EXTRA, START, rise_at};
 use terms::FIELDS;
 
 // How many variables were listed, or the refusal: 20 for `NotAPlan`.
-#[derive(Drop)]
+#[derive(Clone, Copy)]
 pub enum Listing {
     Count(usize),
     NotAPlan,

@@ -12,7 +12,7 @@ use locate_ways::{NOWHERE, RECORDS, find_in};
 use terms::FIELDS;
 
 // A variable (the number of its record, its space, address, size and kind), or the refusal: 20 for `NotAPlan`, 21 for `NoVariable`.
-#[derive(Drop)]
+#[derive(Clone, Copy)]
 pub enum Located {
     Variable {
         record: usize,

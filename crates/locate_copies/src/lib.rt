@@ -9,7 +9,7 @@ use extent::{fall, rise};
 use locate_rows::{CHANGE, COUNT, NEXT, REPLICATION, START, field, natural_at, rise_at};
 
 // One copy of a group's members: the address it starts at, and the number of the sought variable in it.
-#[derive(Drop)]
+#[derive(Clone, Copy)]
 pub struct Copied {
     pub start: u64,
     pub number: u64,

@@ -12,7 +12,7 @@ use locate_rows::{CHANGE, COUNT, EXTRA, KIND, REPLICATION, START, fall_at, field
 use terms::{GROUP, LAST_ADDRESS, MOST_VARIABLES};
 
 // Records that pass, with the extent of their walk, or records that make the table no plan.
-#[derive(Drop)]
+#[derive(Clone, Copy)]
 pub enum Tested {
     Good(Extent),
     Bad,

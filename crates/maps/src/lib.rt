@@ -17,7 +17,7 @@ use numbers_order::is_equal;
 use pieces_cuts::Cut;
 
 // What a property is to equal: an integer, an event ID, which equals none, or the text that is handed in beside it.
-#[derive(Drop)]
+#[derive(Clone, Copy)]
 pub enum Wanted {
     Number { negative: bool, magnitude: u64 },
     Event(u64),

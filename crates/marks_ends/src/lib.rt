@@ -10,14 +10,14 @@ use scan::same;
 use spans::{blanks, is_at};
 
 // An end tag: its name ends before `behind`, and `end` is behind it; both are 0 where it is malformed.
-#[derive(Drop)]
+#[derive(Clone, Copy)]
 pub struct Finish {
     pub behind: usize,
     pub end: usize,
 }
 
 // An end tag against a name: the number is 0 where it has that name, 6 where it has another, and 4 where it is malformed; then the places are 0.
-#[derive(Drop)]
+#[derive(Clone, Copy)]
 pub struct Closed {
     pub number: usize,
     pub behind: usize,

@@ -9,7 +9,7 @@ use marks_ends::shut;
 use marks_runs::text_end;
 
 // Its content ends before `to`, and `end` is behind its end tag. Where `end` is 0, nothing is known.
-#[derive(Drop)]
+#[derive(Clone, Copy)]
 pub struct Leaf {
     pub to: usize,
     pub end: usize,

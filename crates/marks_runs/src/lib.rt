@@ -10,7 +10,7 @@ use spans::blanks;
 
 // A run of text: its end, or 0 where `]]>` stands in it, and its first byte that isn't blank, or its end. Where `]]>` stands in it, that byte
 // is told too.
-#[derive(Drop)]
+#[derive(Clone, Copy)]
 pub struct Run {
     pub end: usize,
     pub solid: usize,

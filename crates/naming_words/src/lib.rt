@@ -6,7 +6,7 @@ ghost use Rattle.naming_words.specs.Whole.{word_end};
 use scan::{begins_at, byte_at, is_name_byte};
 
 // The number of a name, 0 for any other than the fixed ones, and the place behind it, which is the name's own place where none stands there.
-#[derive(Drop)]
+#[derive(Clone, Copy)]
 pub struct Named {
     pub number: u8,
     pub behind: usize,

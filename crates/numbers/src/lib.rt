@@ -12,21 +12,21 @@ use scan::{byte_at, is_digit};
 use spans::{blanks, is_at};
 
 // A number: its sign and its magnitude. A magnitude that needs more than 64 bits is large, and 0 stands in its place.
-#[derive(Drop)]
+#[derive(Clone, Copy)]
 pub struct Signed {
     pub negative: bool,
     pub magnitude: u64,
     pub large: bool,
 }
 
-#[derive(Drop)]
+#[derive(Clone, Copy)]
 pub enum Number {
     Is(Signed),
     Not,
 }
 
 // The numbers from a lower bound, which may be negative, to an upper one.
-#[derive(Drop)]
+#[derive(Clone, Copy)]
 pub struct Range {
     pub negative: bool,
     pub low: u64,
@@ -140,7 +140,7 @@ fn behind_sign(s: &[u8], at: usize) -> usize
 }
 
 // Where the digits of a number begin, and whether a minus stands before them.
-#[derive(Drop)]
+#[derive(Clone, Copy)]
 struct Start {
     at: usize,
     minus: bool,

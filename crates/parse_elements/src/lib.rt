@@ -21,7 +21,7 @@ use tags::start_tag;
 use terms::DEEPEST;
 
 // Where reading has come: `number` is 0, or that of the refusal, whose place `place` is then. Of a refused text the other two say nothing.
-#[derive(Drop)]
+#[derive(Clone, Copy)]
 pub struct Reached {
     pub number: usize,
     pub place: usize,

@@ -10,7 +10,7 @@ use marks_leaf::leaf_at;
 
 // A plain leaf: the place behind it, and what it says. Where `end` is 0, nothing is known: the contract allows that answer of any element, so there is no
 // theorem of one answer.
-#[derive(Drop)]
+#[derive(Clone, Copy)]
 pub struct Leaf {
     pub end: usize,
     pub said: usize,

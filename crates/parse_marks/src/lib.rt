@@ -7,7 +7,7 @@ use pieces::piece_at;
 use pieces_cuts::Kind;
 
 // `number` is that of its refusal, or 0; `refers` tells a reference.
-#[derive(Drop)]
+#[derive(Clone, Copy)]
 pub struct Rare {
     pub number: usize,
     pub end: usize,

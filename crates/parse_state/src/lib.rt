@@ -17,7 +17,7 @@ use judges_state::Judge;
 use tags::Tag;
 use tallies_state::Tally;
 
-#[derive(Drop)]
+#[derive(Clone, Copy)]
 pub struct State {
     pub judge: Judge,
     pub tally: Tally,

@@ -6,7 +6,7 @@ ghost use Rattle.parse_steps.specs.Asks.{begin_fault};
 use terms::{DEEPEST, MOST_ELEMENTS};
 
 // What a piece inside the root asks for: an element begins, an element ends, the piece is passed, or it is refused.
-#[derive(Drop)]
+#[derive(Clone, Copy)]
 pub enum Step {
     Child,
     Close,
@@ -15,7 +15,7 @@ pub enum Step {
 }
 
 // What a piece outside the root asks for: the root begins, the piece is passed, or it is refused.
-#[derive(Drop)]
+#[derive(Clone, Copy)]
 pub enum Around {
     Root,
     Skip,

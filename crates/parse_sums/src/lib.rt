@@ -4,7 +4,7 @@ use rules_judge::Judge;
 use tally_tag::Tally;
 
 // The root's place is 0 as long as it hasn't begun.
-#[derive(Drop)]
+#[derive(Clone, Copy)]
 pub struct State {
     pub judge: Judge,
     pub tally: Tally,

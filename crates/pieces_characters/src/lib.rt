@@ -7,7 +7,7 @@ ghost use Rattle.pieces_characters.specs.Characters.{clip, further, value_in, En
 use scan::is_digit;
 
 // A character's bytes in UTF-8, and how many they are; the others are 0.
-#[derive(Drop)]
+#[derive(Clone, Copy)]
 pub struct Encoding {
     pub bytes: [u8; 4],
     pub length: usize,

@@ -5,7 +5,7 @@ pub mod names; // where a name ends
 pub mod places; // where an attribute stands
 
 // What a piece is; a remark is a comment or an instruction.
-#[derive(Drop)]
+#[derive(Clone, Copy)]
 pub enum Kind {
     Start,
     Finish,
@@ -20,7 +20,7 @@ pub enum Kind {
 // byte that isn't blank, or its end; `code` is the character that a reference is to; `short` tells `/>`, and `refers` that an attribute's
 // value has `&`. What a kind hasn't is the piece's own place, 0 or false. Behind a malformed or unsupported piece nothing is read, so its
 // end is that of the content.
-#[derive(Drop)]
+#[derive(Clone, Copy)]
 pub struct Cut {
     pub kind: Kind,
     pub name: usize,

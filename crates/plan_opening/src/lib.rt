@@ -9,7 +9,7 @@ ghost use Rattle.plan_opening.specs.Openings.{opened_of, Whole, Ended};
 use text::{End, Place, bad_behind, examine, is_opening};
 
 // The end of the content, or the refusal.
-#[derive(Drop)]
+#[derive(Clone, Copy)]
 pub enum Opened {
     Ends(usize),
     Refused { number: usize, place: usize },

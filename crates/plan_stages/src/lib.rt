@@ -10,7 +10,7 @@ use tallies_state::NEVER;
 use terms::MOST_VARIABLES;
 
 // A description's records and variables, or the refusal.
-#[derive(Drop)]
+#[derive(Clone, Copy)]
 pub enum Planned {
     Accepted { records: usize, variables: u64 },
     Refused { number: usize, place: usize },

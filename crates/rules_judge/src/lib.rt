@@ -3,21 +3,21 @@
 use terms::Whole;
 
 // A fault's number and place.
-#[derive(Drop)]
+#[derive(Clone, Copy)]
 pub struct Fault {
     pub number: usize,
     pub place: usize,
 }
 
 // The least fault so far.
-#[derive(Drop)]
+#[derive(Clone, Copy)]
 pub enum Least {
     Nothing,
     Is(Fault),
 }
 
 // What an element's content has said as a number: nothing yet, no number, one out of -2^63 to 2^64 - 1, or its value.
-#[derive(Drop)]
+#[derive(Clone, Copy)]
 pub enum Said {
     Silent,
     No,
@@ -26,7 +26,7 @@ pub enum Said {
 }
 
 // A bound of an int, where it stands.
-#[derive(Drop)]
+#[derive(Clone, Copy)]
 pub struct Bound {
     pub there: bool,
     pub place: usize,
@@ -35,7 +35,7 @@ pub struct Bound {
 
 // What is known of an element while its content is read. `row` is the element's number, 0 for the text itself, 24 for an element whose
 // content isn't judged; `last` is the last entry of the row that a child has had, counted from 1.
-#[derive(Drop)]
+#[derive(Clone, Copy)]
 pub struct Judge {
     pub least: Least,
     pub row: u8,

@@ -7,7 +7,7 @@ ghost use Rattle.cdi.specs.Pieces.{blank, digit, name_start, name_byte, is_text,
 ghost use Rattle.scan.specs.Spans.{of_class, Span};
 
 // The classes of bytes that pieces are made of; a value's bytes are told by its quote.
-#[derive(Drop)]
+#[derive(Clone, Copy)]
 pub enum Class {
     Blank,
     Name,

@@ -10,7 +10,7 @@ ghost use Rattle.scan.specs.declared.Class.TheVariants.{Name, Value};
 use scan::{is_blank, is_name_byte};
 
 // Where a value ends: the place of its closing quote, or of what stands in its place, and whether `&` stands before it.
-#[derive(Drop)]
+#[derive(Clone, Copy)]
 pub struct Ended {
     pub close: usize,
     pub refers: bool,

@@ -20,7 +20,7 @@ use tags_numbers::{Given, bare_numbers, numbers_in};
 use tags_wrong::{first_wrong, is_text_wrong};
 
 // `end` is behind the tag, 0 where it is malformed; `exact` the size that it says exactly; `told` the key of the least of its attributes' faults.
-#[derive(Drop)]
+#[derive(Clone, Copy)]
 pub struct Tag {
     pub end: usize,
     pub short: bool,
@@ -31,7 +31,7 @@ pub struct Tag {
     pub given: Given,
 }
 
-#[derive(Drop)]
+#[derive(Clone, Copy)]
 struct Ending {
     end: usize,
     short: bool,

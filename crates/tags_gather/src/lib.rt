@@ -11,7 +11,7 @@ use tags_faults::{is_among, known_to};
 use tags_spots::next_spot;
 
 // What was read: `last` is behind the last attribute, `exact` the size that the first `size` says exactly, 1 where there is none and 0 where it says none.
-#[derive(Drop)]
+#[derive(Clone, Copy)]
 pub struct Gathered {
     pub last: usize,
     pub count: usize,

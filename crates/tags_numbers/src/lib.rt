@@ -5,7 +5,7 @@ ghost use Rattle.tally_tag.specs.Numbered.{numbers_by};
 ghost use Rattle.tags_numbers.specs.Given.{Cells, Bounded, offset_by, given_in, given_by};
 
 // A segment's origin and space, or the offset and the size of any other element; and the replication.
-#[derive(Drop)]
+#[derive(Clone, Copy)]
 pub struct Given {
     pub address: i64,
     pub width: u64,

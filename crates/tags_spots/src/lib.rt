@@ -10,7 +10,7 @@ use spans::{blanks, is_at, value_end};
 
 // Its name stands from `name` to before `behind` and has that number, 0 where it is none of the ten; its value stands from `value` to before
 // `close`, and `end` is behind its quote.
-#[derive(Drop)]
+#[derive(Clone, Copy)]
 pub struct Spot {
     pub name: usize,
     pub behind: usize,
@@ -22,7 +22,7 @@ pub struct Spot {
 }
 
 // A value in its quotes: the place behind it.
-#[derive(Drop)]
+#[derive(Clone, Copy)]
 struct Quote {
     end: usize,
     refers: bool,

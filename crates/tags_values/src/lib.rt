@@ -11,7 +11,7 @@ use numbers::{Number, Signed, read_number};
 use scan::same;
 use terms::{MOST_DOWN, MOST_SIGNED, MOST_SPACE, MOST_TEXT};
 
-#[derive(Drop)]
+#[derive(Clone, Copy)]
 pub struct Held {
     pub code: u8,
     pub amount: u64,

@@ -10,7 +10,7 @@ use extent::Extent;
 // The extent of a level's data elements so far, and of the whole text the records, the variables of the segments that have ended, at most
 // 1,000,001, the place of the first segment that leaves the addresses, and the root's place, which is 0 as long as it hasn't begun. Level 0 is the
 // text, 1 the root, 2 a segment or a group; in anything else, 3, nothing is described.
-#[derive(Drop)]
+#[derive(Clone, Copy)]
 pub struct Tally {
     pub extent: Extent,
     pub level: usize,

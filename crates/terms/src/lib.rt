@@ -44,7 +44,7 @@ pub const EVENTID: u64 = 5;
 pub const FLOAT: u64 = 6;
 
 // "An integer comes in as a sign and a 64-bit magnitude"
-#[derive(Drop)]
+#[derive(Clone, Copy)]
 pub struct Whole {
     pub negative: bool,
     pub magnitude: u64,

@@ -15,27 +15,27 @@ use text_runs::{nonzero_run, plain_run, starts_run};
 const LIMIT: usize = TEXT_LIMIT;
 
 // The place of the zero, or that of refusal 1.
-#[derive(Drop)]
+#[derive(Clone, Copy)]
 pub enum End {
     At(usize),
     Missing(usize),
 }
 
-#[derive(Drop)]
+#[derive(Clone, Copy)]
 pub enum Place {
     At(usize),
     Nothing,
 }
 
 // The characters of content, or all of UTF-8.
-#[derive(Drop)]
+#[derive(Clone, Copy)]
 pub enum Set {
     Allowed,
     Any,
 }
 
 // The end of the content, and a place up to which all bytes are characters by themselves, so that a check of characters may begin there.
-#[derive(Drop)]
+#[derive(Clone, Copy)]
 pub struct Examined {
     pub end: End,
     pub run: usize,

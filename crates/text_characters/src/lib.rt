@@ -6,7 +6,7 @@ ghost use Rattle.cdi.specs.Text.{continues, scalar, sequence as sequenceOf, char
 ghost use Rattle.text_characters.specs.Answers.{character_of};
 
 // A character's number and how many bytes it takes.
-#[derive(Drop)]
+#[derive(Clone, Copy)]
 pub enum Character {
     Is(u32, usize),
     Not,

@@ -13,7 +13,7 @@ use maps::Wanted;
 use undo_entries::{Begun, HEAD, keep, place_for};
 
 // How many edits stand, or the refusal.
-#[derive(Drop)]
+#[derive(Clone, Copy)]
 pub enum Outcome {
     Stands(u64),
     Refused { number: usize, place: usize },

@@ -16,14 +16,14 @@ const MOST: u64 = 64;
 pub const HEAD: usize = 8;
 
 // Where an entry begins, if it does.
-#[derive(Drop)]
+#[derive(Clone, Copy)]
 pub enum Begun {
     At(usize),
     Nothing,
 }
 
 // Number and size of an entry and where its old bytes begin, if it lies in the journal.
-#[derive(Drop)]
+#[derive(Clone, Copy)]
 pub enum Last {
     At {
         number: u64,

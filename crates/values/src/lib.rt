@@ -10,7 +10,7 @@ use scan::byte_at;
 use terms::Whole;
 
 // The first zero byte.
-#[derive(Drop)]
+#[derive(Clone, Copy)]
 pub enum Zero {
     At(usize),
     Missing,
