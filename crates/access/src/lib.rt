@@ -1,5 +1,6 @@
 // Writing and reading settings: a text, the exact records planned from it, a variable's number and a window in; a refusal or the value out. A write
 // changes the bytes of its variable and no other; a refused one changes none.
+#![tactic(auto)]
 
 ghost use Rattle.std.specs.Prelude.{◌≡◌};
 ghost use Rattle.cdi.specs.Faults.{accepted};

@@ -1,4 +1,5 @@
 // The causes that the text decides, and why a value can't be written.
+#![tactic(auto)]
 
 ghost use Rattle.std.specs.Prelude.{◌≡◌, ◌||◌};
 ghost use Rattle.cdi.specs.Access.{is_float, is_mapped_event};

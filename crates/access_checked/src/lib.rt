@@ -1,5 +1,6 @@
 // Whether a table is exactly the one planned from a text. The text's own rows are made in a table of the lent one's class, so that the text is planned
 // once: where these rows are too few, the lent table is not the one.
+#![tactic(auto)]
 
 ghost use Rattle.std.specs.Prelude.{◌≡◌, ◌&&◌, ◌*◌, ◌≤◌, leb, length, take};
 ghost use Rattle.cdi.specs.Table.{same_table};

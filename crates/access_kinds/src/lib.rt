@@ -1,4 +1,5 @@
 // A variable with its own content, and the causes that are told without a look at its content: 22, 25, 26, and 27 of a float.
+#![tactic(auto)]
 
 ghost use Rattle.std.specs.Prelude.{◌≡◌, eqb, length};
 ghost use Rattle.cdi.specs.Lists.{any};

@@ -1,4 +1,5 @@
 // Which setting variable n of a text and a table that have been checked is.
+#![tactic(auto)]
 
 ghost use Rattle.std.specs.Prelude.{◌≡◌, take};
 ghost use Rattle.cdi.specs.Faults.{accepted};

@@ -1,4 +1,5 @@
 // Which of the causes from 22 on speaks: the one place that knows their order.
+#![tactic(auto)]
 
 ghost use Rattle.std.specs.Prelude.{◌≡◌};
 ghost use Rattle.access_order.specs.Told.{first_of};

@@ -1,4 +1,5 @@
 // One setting's value out of a window.
+#![tactic(auto)]
 
 ghost use Rattle.std.specs.Prelude.{◌≡◌, ◌+◌, ◌-◌, ◌≤◌, length, take, drop};
 ghost use Rattle.cdi.specs.Access.{read_from};

@@ -1,4 +1,5 @@
 // One setting's value into a window.
+#![tactic(auto)]
 
 ghost use Rattle.std.specs.Prelude.{◌≡◌, length};
 ghost use Rattle.cdi.specs.Access.{first_cause, write_causes, write_into, stored};

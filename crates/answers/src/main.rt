@@ -1,5 +1,6 @@
 // Answers a stream of cases from standard input, one line for each. A frame that is cut off, beyond its limits or of another first byte ends the
 // run with `bad frame`.
+#![tactic(auto)]
 
 pub mod accesses; // writing and reading
 pub mod plans; // planning

@@ -1,4 +1,5 @@
 // Frames `K` and `R`: a window stored in blocks, and a backup read back, each into an output of so much room.
+#![tactic(auto)]
 
 ghost use Rattle.std.specs.Prelude.{◌≤◌};
 

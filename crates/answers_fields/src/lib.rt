@@ -1,4 +1,5 @@
 // The fields of a frame that hands in a text, its table and a window, and what it asks.
+#![tactic(auto)]
 
 ghost use Rattle.std.specs.Prelude.{◌≤◌, ◌≡◌, length};
 

@@ -1,4 +1,5 @@
 // Frames that ask for a single reading: the end of the content, characters, numbers, formatting, names, and the piece at a place.
+#![tactic(auto)]
 
 ghost use Rattle.std.specs.Prelude.{◌≤◌, ◌<◌, length};
 

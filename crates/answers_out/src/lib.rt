@@ -1,4 +1,5 @@
 // The lines of answers: a line is made as numbers, and written out as bytes.
+#![tactic(auto)]
 
 pub mod lines; // what stands in a line
 pub mod outcomes; // the outcomes of a session

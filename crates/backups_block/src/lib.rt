@@ -1,4 +1,5 @@
 // A block put together: number, length, space, flag, payload with zeros behind it, check.
+#![tactic(auto)]
 
 ghost use Rattle.std.specs.Prelude.{◌≡◌, [], ◌∷◌, ◌++◌, ◌≤◌, length, replicate};
 ghost use Rattle.cdi.specs.Values.{bytes_of, padded};

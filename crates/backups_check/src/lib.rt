@@ -1,4 +1,5 @@
 // The check of a block.
+#![tactic(auto)]
 
 ghost use Rattle.std.specs.Prelude.{◌≡◌, ◌+◌, ◌*◌, ◌<◌, length};
 ghost use Rattle.blocks.specs.Blocks.{check_of};

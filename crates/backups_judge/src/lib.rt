@@ -1,4 +1,5 @@
 // A block judged, and one block behind the other.
+#![tactic(auto)]
 
 ghost use Rattle.std.specs.Prelude.{◌≡◌, ◌*◌, ◌≤◌, length};
 ghost use Rattle.blocks.specs.Backups.{is_length_good, is_good, cause_of, judging, first_bad};

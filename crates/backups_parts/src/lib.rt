@@ -1,4 +1,5 @@
 // Parts of a block that storing, judging and reading share.
+#![tactic(auto)]
 
 ghost use Rattle.std.specs.Prelude.{◌≡◌, ◌+◌, ◌-◌, ◌*◌, min, ◌<◌, ◌≤◌, eqb, length};
 ghost use Rattle.cdi.specs.Lists.{all};

@@ -1,4 +1,5 @@
 // A window out of blocks. All blocks are judged before the first byte is stored.
+#![tactic(auto)]
 
 ghost use Rattle.std.specs.Prelude.{◌≡◌, ◌+◌, ◌*◌, ◌≤◌, length};
 ghost use Rattle.std.proofs.Math.Option.{none};

@@ -1,4 +1,5 @@
 // A window into blocks.
+#![tactic(auto)]
 
 ghost use Rattle.std.specs.Prelude.{◌≡◌, ◌+◌, ◌*◌, ◌<◌, ◌≤◌, length};
 ghost use Rattle.blocks.specs.Backups.{kept, blocks_from, storing, after_storing};

@@ -1,1 +1,2 @@
 // No code: the laws of backups in blocks.
+#![tactic(auto)]

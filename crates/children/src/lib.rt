@@ -1,5 +1,6 @@
 // The children of an element, by place: the next one, the place behind one, and the content of one by its name. A place stands for what is still to
 // come at its level, up to the end tag that closes the level.
+#![tactic(auto)]
 
 ghost use Rattle.std.specs.Prelude.{◌≡◌, ◌≤◌, length};
 ghost use Rattle.pieces_cuts.specs.Cuts.{Stands};

@@ -1,5 +1,6 @@
 // What the text says of one element in its own content: one run of text and the number that it is, or text with its references decoded. A place stands
 // for what is still to come at its level.
+#![tactic(auto)]
 
 ghost use Rattle.std.specs.Prelude.{◌≡◌, ◌≤◌, length, drop};
 ghost use Rattle.cdi.specs.Lists.{same as sameBytes, begins};

@@ -2,6 +2,7 @@
 //
 // An extent knows no address: it counts heights above the lowest address that its stretch reaches, the one it starts at included. So the
 // same extent serves every start, and only `rise` and `fall` touch a sign.
+#![tactic(auto)]
 
 ghost use Rattle.std.specs.Prelude.{◌≡◌, ◌≤◌, ◌<◌, ◌+◌, ◌-◌, ◌*◌, ◌^◌, max, neg_ℤ};
 ghost use Rattle.cdi.specs.Rules.{natural};

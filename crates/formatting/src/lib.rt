@@ -1,4 +1,5 @@
 // The pattern of `formatting`.
+#![tactic(auto)]
 
 ghost use Rattle.std.specs.Prelude.{◌≡◌};
 ghost use Rattle.cdi.specs.Lists.{ascii, same as sameBytes, after};

@@ -1,4 +1,5 @@
 // The fields of frames, read from standard input: bytes, and numbers that are big-endian.
+#![tactic(auto)]
 
 ghost use Rattle.std.specs.Prelude.{◌≡◌, true, ◌+◌, ◌*◌, ◌≤◌, ◌<◌, ◌^◌, length};
 ghost use Rattle.frames.specs.Limits.{keeps};

@@ -1,4 +1,5 @@
 // FNV-1a with 64 bits, over bytes and over the numbers of a table.
+#![tactic(auto)]
 
 ghost use Rattle.std.specs.Prelude.{◌≡◌, bit_xor};
 ghost use Rattle.cdi.specs.Values.{bytes_of, complement};

@@ -1,4 +1,5 @@
 // Numbers of 64 bits with their sign.
+#![tactic(auto)]
 
 ghost use Rattle.std.specs.Prelude.{◌≡◌, true};
 ghost use Rattle.cdi.specs.Values.{uncomplement};

@@ -1,4 +1,5 @@
 // An int's bounds: its sign by min, what its size can store, and min at most max. Numbers are a sign and a magnitude of 64 bits.
+#![tactic(auto)]
 
 ghost use Rattle.std.specs.Prelude.{◌≡◌, not, ◌||◌, ◌*◌, ◌-◌, ◌^◌, ◌≤◌};
 ghost use Rattle.std.specs.Int.Signed.{le_z};

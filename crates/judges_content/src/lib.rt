@@ -1,4 +1,5 @@
 // What stands in an element besides its children: stray text and references, and the number that its text says.
+#![tactic(auto)]
 
 ghost use Rattle.std.specs.Prelude.{◌≡◌, cond, ◌+◌, ◌≤◌, ◌<◌, length};
 ghost use Rattle.cdi.specs.Lists.{while as longest};

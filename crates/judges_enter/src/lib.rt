@@ -1,4 +1,5 @@
 // Entering a child: order, count and attributes are judged by the parent's row.
+#![tactic(auto)]
 
 ghost use Rattle.std.specs.Prelude.{◌≡◌, ◌≤◌, ◌<◌};
 ghost use Rattle.keys.specs.Keys.{fault_in};

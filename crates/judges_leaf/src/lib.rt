@@ -1,5 +1,6 @@
 // A plain leaf: a child in its turn that holds text only, has no attributes, holds nothing but one run of text or nothing, and is a number in range where
 // it must be one. It needs no judge of its own.
+#![tactic(auto)]
 
 ghost use Rattle.std.specs.Prelude.{◌≡◌, cond, not, ◌&&◌, ◌||◌, ◌≤◌};
 ghost use Rattle.cdi.specs.Numbers.{number};

@@ -1,4 +1,5 @@
 // A child that is left: what is missing in it, what it has said, an int's bounds, and the judge behind it.
+#![tactic(auto)]
 
 ghost use Rattle.std.specs.Prelude.{◌≡◌, ◌≤◌, max};
 ghost use Rattle.rules_judge.specs.Judging.{blamed, said_faults};

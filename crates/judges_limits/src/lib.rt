@@ -1,4 +1,5 @@
 // Min and max: what they have said, and whether an int's bounds are still sound.
+#![tactic(auto)]
 
 ghost use Rattle.std.specs.Prelude.{◌≡◌, not, ◌&&◌, ◌||◌, ◌≤◌, leb};
 ghost use Rattle.rules_judge.specs.Parts.{is_limit};

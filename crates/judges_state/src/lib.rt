@@ -1,4 +1,5 @@
 // What is known of an element while its content is read, as plain numbers: nothing of it is an enum, and its bools stand side by side.
+#![tactic(auto)]
 
 ghost use Rattle.std.specs.Prelude.{◌≡◌, false};
 ghost use Rattle.rules_judge.specs.declared.Least.TheVariants.{Nothing};

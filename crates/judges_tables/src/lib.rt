@@ -1,5 +1,6 @@
 // The table of elements, looked up by element number: a child's entry in its parent's row, and whether it stands in its turn. Row 0 is the text
 // itself; rows from 12 on are those of elements that hold text only.
+#![tactic(auto)]
 
 ghost use Rattle.std.specs.Prelude.{◌≡◌, ◌≤◌, ◌<◌, eqb, get_or};
 ghost use Rattle.rules_judge.specs.Judging.{row_at};

@@ -1,4 +1,5 @@
 // The least fault as one number: 128 times its place and the rank of its number; the largest number of 64 bits is none.
+#![tactic(auto)]
 
 ghost use Rattle.std.specs.Prelude.{◌≡◌, ◌≤◌, ◌<◌, max};
 ghost use Rattle.std.proofs.Math.Option.{some};

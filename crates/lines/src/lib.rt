@@ -1,5 +1,6 @@
 // The bytes of a program's lines, put into a lent slice one part behind another. Each function says what stands before the place that it
 // returns.
+#![tactic(auto)]
 
 ghost use Rattle.std.specs.Prelude.{◌≡◌, [], ◌+◌, ◌*◌, ◌^◌, ◌≤◌, ◌<◌, length, take};
 ghost use Rattle.lines_items.specs.Bytes.{line, lines_in, refusal_line, count_line};

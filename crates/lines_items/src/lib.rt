@@ -1,4 +1,5 @@
 // The words of programs' lines in a lent slice: bytes, decimal numbers, kinds.
+#![tactic(auto)]
 
 ghost use Rattle.std.specs.Prelude.{◌≡◌, ◌++◌, ◌+◌, ◌≤◌, length, take};
 ghost use Rattle.lines_items.specs.Bytes.{decimal, next, kind_word};

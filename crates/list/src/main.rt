@@ -1,5 +1,6 @@
 // Lists the variables of a description that stands on standard input: their count and a line for each, or the refusal. The text is planned into
 // a table of 1,024 records, and the variables are read from that table alone, many at a time.
+#![tactic(auto)]
 
 pub mod input;
 

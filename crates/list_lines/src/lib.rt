@@ -1,4 +1,5 @@
 // The lines of a plan's variables from one on.
+#![tactic(auto)]
 
 ghost use Rattle.std.specs.Prelude.{◌≡◌, true, [], ◌*◌, ◌/◌, ◌≤◌, length, take};
 ghost use Rattle.cdi.specs.Walk.{walk};

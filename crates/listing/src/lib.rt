@@ -1,5 +1,6 @@
 // The variables of a plan, many at a time, for a program that lists them all: a batch walks down to its first variable once and then
 // goes on from one to the next, copy after copy, so that skipped records are paid for once a batch.
+#![tactic(auto)]
 
 ghost use Rattle.std.specs.Prelude.{◌≡◌, true, length};
 ghost use Rattle.cdi.specs.Walk.{walk};

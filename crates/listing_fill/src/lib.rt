@@ -1,4 +1,5 @@
 // Filling a slice with the variables of a plan, five numbers each: from one variable to the next, copy after copy.
+#![tactic(auto)]
 
 ghost use Rattle.std.specs.Prelude.{◌≡◌, ◌≤◌, ◌<◌, ◌+◌, ◌-◌, ◌*◌, ◌/◌, length};
 ghost use Rattle.cdi.specs.Rules.{natural};

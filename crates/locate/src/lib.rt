@@ -1,4 +1,5 @@
 // Which tables are plans, and where variable n of a plan lives: asked of a table alone.
+#![tactic(auto)]
 
 ghost use Rattle.std.specs.Prelude.{◌≡◌, true, ◌≤◌, ◌+◌, ◌*◌, ◌%◌, length};
 ghost use Rattle.cdi.specs.Plans.{is_plan, segments_of, variable_of, locating};

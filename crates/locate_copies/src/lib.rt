@@ -1,4 +1,5 @@
 // The copies of a group, by its record alone: where each starts, and which one holds a variable.
+#![tactic(auto)]
 
 ghost use Rattle.std.specs.Prelude.{◌≡◌, ◌≤◌, ◌<◌, ◌+◌, ◌-◌, ◌*◌, ◌/◌, ◌^◌, length, neg_ℤ, ◌-ℤ◌};
 ghost use Rattle.cdi.specs.Rules.{natural};

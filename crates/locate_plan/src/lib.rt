@@ -1,4 +1,5 @@
 // Whether a table is a plan: one pass over its records, which sums up each subtree as an extent instead of copying its groups out.
+#![tactic(auto)]
 
 ghost use Rattle.std.specs.Prelude.{◌≡◌, true, ◌≤◌, ◌+◌, ◌*◌, ◌<◌, length};
 ghost use Rattle.cdi.specs.Plans.{is_plan, field, item_fits, segment_fits};

@@ -1,4 +1,5 @@
 // The numbers of one record that lie in document 01's ranges.
+#![tactic(auto)]
 
 ghost use Rattle.std.specs.Prelude.{◌≡◌, [], ◌∷◌, ◌≤◌, ◌<◌, ◌+◌, ◌-◌, ◌*◌, length, pos, eqb};
 ghost use Rattle.std.specs.Int.Signed.{lt_z};

@@ -1,4 +1,5 @@
 // Where a table keeps the numbers of its records, how they are read, and two tables compared.
+#![tactic(auto)]
 
 ghost use Rattle.std.specs.Prelude.{◌≡◌, ◌≤◌, ◌<◌, ◌+◌, ◌*◌, ◌^◌, length, neg_ℤ};
 ghost use Rattle.cdi.specs.Rules.{natural};

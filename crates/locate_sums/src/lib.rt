@@ -1,4 +1,5 @@
 // The records of a table as extents: that of an element by those of its members, whether its record tells it, and whether all keep the limits.
+#![tactic(auto)]
 
 ghost use Rattle.std.specs.Prelude.{◌≡◌, ◌≤◌, ◌+◌, ◌*◌, length};
 ghost use Rattle.cdi.specs.Plans.{field};

@@ -1,4 +1,5 @@
 // Where variable n of good records stands: along the records, past whole elements by their counts, and down into the one copy that holds it.
+#![tactic(auto)]
 
 ghost use Rattle.std.specs.Prelude.{◌≡◌, ◌≤◌, ◌+◌, ◌*◌, ◌^◌, length};
 ghost use Rattle.locate_ways.specs.Finding.{Site, Finds};

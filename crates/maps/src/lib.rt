@@ -1,5 +1,6 @@
 // A map's properties: whether one of them equals a value, an integer by number, a text by its decoded bytes. A place stands for what is still to come at
 // its level.
+#![tactic(auto)]
 
 ghost use Rattle.std.specs.Prelude.{◌≡◌, false, ◌≤◌, length};
 ghost use Rattle.cdi.specs.Lists.{given, any};

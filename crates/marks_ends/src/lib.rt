@@ -1,4 +1,5 @@
 // An end tag, and whether it has an element's name: compared in place first, and read where that fails.
+#![tactic(auto)]
 
 ghost use Rattle.std.specs.Prelude.{◌≡◌, [], ◌∷◌, true, ◌+◌, ◌≤◌, ◌<◌, length, drop};
 ghost use Rattle.cdi.specs.Lists.{begins};

@@ -1,4 +1,5 @@
 // A plain leaf: an element without attributes that holds nothing or one run of text, which has no `>`, and whose end tag has no blank.
+#![tactic(auto)]
 
 ghost use Rattle.std.specs.Prelude.{◌≡◌, ◌+◌, ◌≤◌, ◌<◌, length, drop};
 ghost use Rattle.pieces_cuts.specs.Places.{Name};

@@ -1,4 +1,5 @@
 // A run of text, in one scan: blanks, then bytes up to `<` or `&`; at each `>` the two bytes before it are looked at.
+#![tactic(auto)]
 
 ghost use Rattle.std.specs.Prelude.{◌≡◌, true, ◌≤◌, ◌<◌, length, get_or};
 ghost use Rattle.cdi.specs.Pieces.{is_text};

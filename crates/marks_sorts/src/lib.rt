@@ -1,4 +1,5 @@
 // The sort of the piece at a place, by its first two bytes.
+#![tactic(auto)]
 
 ghost use Rattle.std.specs.Prelude.{◌≡◌, ◌≤◌, ◌<◌, length, drop};
 ghost use Rattle.marks_cuts.specs.Marks.{sort_at};

@@ -1,5 +1,6 @@
 // Names: the number of an element's name and of an attribute's name, each compared with fixed byte strings. Numbers are counted from 1, and 0
 // is the answer for any other name.
+#![tactic(auto)]
 
 ghost use Rattle.std.specs.Prelude.{◌≡◌};
 ghost use Rattle.names.specs.Names.{element_names, attribute_names, number_in, element_number, attribute_number};

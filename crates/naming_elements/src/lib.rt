@@ -1,5 +1,6 @@
 // The element's name that stands at a place, with its number: a guess by its first three bytes, on which nothing rests, and one comparison
 // with a fixed byte string; where that fails, the name is read and looked up.
+#![tactic(auto)]
 
 ghost use Rattle.std.specs.Prelude.{◌≡◌, ◌≤◌, length};
 ghost use Rattle.names.specs.Names.{element_number};

@@ -1,5 +1,6 @@
 // The place behind an element's name, by the element's number: one comparison with a fixed byte string. No contract asks that the name is
 // found, since nothing rests on an answer of 0: the name is then looked up.
+#![tactic(auto)]
 
 ghost use Rattle.std.specs.Prelude.{◌≤◌, length};
 ghost use Rattle.names.specs.Names.{element_number};

@@ -1,4 +1,5 @@
 // A fixed word that stands at a place as a whole name, and the number of a name beside the place behind it.
+#![tactic(auto)]
 
 ghost use Rattle.std.specs.Prelude.{◌≡◌, ◌≤◌, length};
 ghost use Rattle.naming_words.specs.Whole.{word_end};

@@ -1,4 +1,5 @@
 // Numbers: blanks or none, an optional plus or minus, one or more decimal digits, blanks or none, and nothing else. They are read from any bytes.
+#![tactic(auto)]
 
 ghost use Rattle.std.specs.Prelude.{◌≡◌, ◌-◌, ◌≤◌, length};
 ghost use Rattle.cdi.specs.Lists.{shorn};

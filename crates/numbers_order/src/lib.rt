@@ -1,4 +1,5 @@
 // Numbers compared, however large they are.
+#![tactic(auto)]
 
 ghost use Rattle.std.specs.Prelude.{◌≡◌, ◌<◌, ◌^◌, eqb, leb};
 ghost use Rattle.std.specs.Int.Signed.{le_z};

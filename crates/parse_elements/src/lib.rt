@@ -1,5 +1,6 @@
 // Elements and their content. Reading an element calls reading content, which calls reading an element for each child, and the depth left of 24
 // falls. With all 24 levels left nothing is open: what stands around the root is read by the same loop. A plain leaf is read without a call.
+#![tactic(auto)]
 
 ghost use Rattle.std.specs.Prelude.{◌≡◌, ◌+◌, ◌%◌, ◌≤◌, ◌<◌, length, drop};
 ghost use Rattle.pieces_cuts.specs.Places.{Name};

@@ -1,4 +1,5 @@
 // A plain leaf that stands in its turn: what reading elements must know of it, so that no judge of its own and no call is needed.
+#![tactic(auto)]
 
 ghost use Rattle.std.specs.Prelude.{◌≡◌, ◌+◌, ◌≤◌, ◌<◌, length, drop};
 ghost use Rattle.pieces_cuts.specs.Places.{Name};

@@ -1,4 +1,5 @@
 // A piece that is neither a tag nor a run of text: a comment, an instruction, a reference, or what is refused.
+#![tactic(auto)]
 
 ghost use Rattle.std.specs.Prelude.{◌≡◌, ◌<◌, length};
 ghost use Rattle.parse_marks.specs.Rare.{rare_fault, is_refer, Rares};

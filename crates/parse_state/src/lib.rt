@@ -1,5 +1,6 @@
 // The state of parsing as plain numbers, judge and tally beside each other, and the steps that move it. Parsing knows these by their contracts
 // alone.
+#![tactic(auto)]
 
 ghost use Rattle.std.specs.Prelude.{◌≡◌, Bool, ◌+◌, ◌%◌, ◌≤◌, ◌<◌, length, drop};
 ghost use Rattle.cdi.specs.Lists.{while as longest};

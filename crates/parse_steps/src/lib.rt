@@ -1,4 +1,5 @@
 // What a start tag must keep, and what may stand outside the root: no state is needed. Definitions speak of what a piece asks for by the two enums.
+#![tactic(auto)]
 
 ghost use Rattle.std.specs.Prelude.{◌≡◌, cond, not, ◌&&◌, eqb, ltb, ◌+◌, ◌≤◌};
 ghost use Rattle.parse_steps.specs.Asks.{begin_fault};

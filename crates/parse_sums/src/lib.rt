@@ -1,4 +1,5 @@
 // No code: what is summed up along the way, as a type: the judge of stages 8 to 10, the tally of the walk and the root's place; its moves by names, and their laws.
+#![tactic(auto)]
 
 use rules_judge::Judge;
 use tally_tag::Tally;

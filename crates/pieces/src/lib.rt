@@ -1,5 +1,6 @@
 // The pieces of the content: which piece stands at a place, and where its parts stand. Each reader of one kind is handed the part of the
 // content that starts with the piece, and counts places from there; `piece_at` alone counts them from the content's beginning.
+#![tactic(auto)]
 
 ghost use Rattle.std.specs.Prelude.{◌≡◌, [], ◌∷◌, true, ◌<◌, length};
 ghost use Rattle.cdi.specs.Lists.{begins};

@@ -1,4 +1,5 @@
 // The attributes of a tag, by their places. They begin behind its name.
+#![tactic(auto)]
 
 ghost use Rattle.std.specs.Prelude.{◌≡◌, ◌≤◌, length, drop};
 ghost use Rattle.cdi.specs.Lists.{any};

@@ -1,4 +1,5 @@
 // Characters by their numbers: the number that digits make, and a character's bytes in UTF-8.
+#![tactic(auto)]
 
 ghost use Rattle.std.specs.Prelude.{◌≡◌, ◌-◌, ◌≤◌};
 ghost use Rattle.cdi.specs.Pieces.{lower as lowered, hex_value};

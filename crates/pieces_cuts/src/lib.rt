@@ -1,4 +1,5 @@
 // What a piece of the content is, by its kind and its places.
+#![tactic(auto)]
 
 pub mod cuts; // cuts without name and text
 pub mod names; // where a name ends

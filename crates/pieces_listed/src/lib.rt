@@ -1,4 +1,5 @@
 // The names of a tag's attributes: compared plainly, put into a table, and one of them met again.
+#![tactic(auto)]
 
 ghost use Rattle.std.specs.Prelude.{◌≡◌, true, ◌≤◌, length, drop};
 ghost use Rattle.cdi.specs.Pieces.{attributes, twice};

@@ -1,4 +1,5 @@
 // Comments, instructions and runs of text. Each reader is handed the part of the content that starts with the piece.
+#![tactic(auto)]
 
 ghost use Rattle.std.specs.Prelude.{◌≡◌, true, ◌≤◌, ◌<◌, length, drop, get_or};
 ghost use Rattle.cdi.specs.Pieces.{is_xml, is_text, or_malformed, comment as commentOf, instruction as instructionOf, run};

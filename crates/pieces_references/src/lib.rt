@@ -1,4 +1,5 @@
 // References. Each reader is handed the part of the content that starts with the reference.
+#![tactic(auto)]
 
 ghost use Rattle.std.specs.Prelude.{◌≡◌, ◌≤◌, ◌<◌, length, drop};
 ghost use Rattle.cdi.specs.Pieces.{or_malformed, numbered as numberedIn, reference as referenceOf};

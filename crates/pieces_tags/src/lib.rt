@@ -1,4 +1,5 @@
 // Tags. Each reader is handed the part of the content that starts with the tag.
+#![tactic(auto)]
 
 ghost use Rattle.std.specs.Prelude.{◌≡◌, ◌≤◌, length, drop};
 ghost use Rattle.cdi.specs.Pieces.{attributes, twice, or_malformed, start_tag, end_tag};

@@ -1,6 +1,7 @@
 // Planning: any text and any lent table in, a refusal with its place or the table out. The rows are made in a table of the planner's own and
 // copied to the caller's as the last step, so that a refusal writes nothing. That table is cleared for each text, so a text gets one of the size
 // that likely fits it; where it has more records, it is planned again with more rows.
+#![tactic(auto)]
 
 ghost use Rattle.std.specs.Prelude.{◌≡◌, ◌≤◌, length};
 ghost use Rattle.cdi.specs.Planning.{planned, table_after};

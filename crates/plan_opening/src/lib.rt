@@ -1,4 +1,5 @@
 // Stages 1 to 3: where the content ends, its characters, its first line.
+#![tactic(auto)]
 
 ghost use Rattle.std.specs.Prelude.{◌≡◌, ◌≤◌, length};
 ghost use Rattle.cdi.specs.Faults.{◌and_then◌};

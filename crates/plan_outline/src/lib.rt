@@ -1,4 +1,5 @@
 // Stages 4 to 12: what content describes, with its rows in a table of any length.
+#![tactic(auto)]
 
 ghost use Rattle.std.specs.Prelude.{◌≡◌, ◌%◌, ◌≤◌, length};
 ghost use Rattle.cdi.specs.Faults.{◌and_then◌};

@@ -1,4 +1,5 @@
 // Stages 8 to 12, in their order: each refuses or hands on what the next one says.
+#![tactic(auto)]
 
 ghost use Rattle.std.specs.Prelude.{◌≡◌};
 ghost use Rattle.judges_state.specs.Decoded.{least_in};

@@ -1,4 +1,5 @@
 // Stage 13: the records go to the front of the lent table, where they fit.
+#![tactic(auto)]
 
 ghost use Rattle.std.specs.Prelude.{◌≡◌, cond, ◌*◌, ◌≤◌, leb, length, take};
 ghost use Rattle.cdi.specs.Planning.{placed};

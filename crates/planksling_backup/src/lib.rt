@@ -1,5 +1,6 @@
 // The library of backups as C and other languages link it: a window stored in blocks that a shop can inspect, and read back. It needs nothing of the
 // planner. Every call has a C name, takes slices as a pointer and a length, asks nothing of its caller, and returns 0 or the number of the refusal.
+#![tactic(auto)]
 
 ghost use Rattle.std.specs.Prelude.{◌≡◌};
 ghost use Rattle.blocks.specs.Backups.{Restored, kept, storing, after_storing, judging, restoring, after_restoring};

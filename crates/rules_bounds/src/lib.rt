@@ -1,4 +1,5 @@
 // The numbers that an int's size can store.
+#![tactic(auto)]
 
 ghost use Rattle.std.specs.Prelude.{◌≡◌, ◌*◌, ◌-◌, ◌^◌, ◌≤◌};
 ghost use Rattle.cdi.specs.Rules.{smallest, largest};

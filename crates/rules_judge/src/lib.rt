@@ -1,4 +1,5 @@
 // No code: what is known of an element while its content is read, as types, with the definitions and laws of the table of elements.
+#![tactic(auto)]
 
 use terms::Whole;
 

@@ -1,5 +1,6 @@
 // Bytes by place: one byte, a word, two byte strings compared, and the span of a class of bytes. Past the end stands 0, which no
 // content has.
+#![tactic(auto)]
 
 ghost use Rattle.std.specs.Prelude.{◌≡◌, ◌≤◌, length, get_or, drop, eqb};
 ghost use Rattle.cdi.specs.Lists.{any, same as sameBytes, begins, between};

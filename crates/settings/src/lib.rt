@@ -1,4 +1,5 @@
 // What the text says of one setting, asked by the place in its record: its content, a child of it, and the number in that child.
+#![tactic(auto)]
 
 ghost use Rattle.std.specs.Prelude.{◌≡◌, true, ◌≤◌, ◌<◌, length};
 ghost use Rattle.cdi.specs.Lists.{is_some};

@@ -1,4 +1,5 @@
 // A setting's map: whether it has one, and whether a value is among the map's properties.
+#![tactic(auto)]
 
 ghost use Rattle.std.specs.Prelude.{◌≡◌, true};
 ghost use Rattle.cdi.specs.Lists.{ascii, given, any};

@@ -1,4 +1,5 @@
 // An int's sign and bounds, by its content and its size. Bounds may be any numbers.
+#![tactic(auto)]
 
 ghost use Rattle.std.specs.Prelude.{◌≡◌, ◌≤◌};
 ghost use Rattle.cdi.specs.Lists.{ascii};

@@ -1,5 +1,6 @@
 // One byte at a place, and spans of one class of bytes each, so that no byte is asked what another class would need: blanks, the bytes of a name and
 // those of a value. They say what `scan::span` says.
+#![tactic(auto)]
 
 ghost use Rattle.std.specs.Prelude.{◌≡◌, [], ◌∷◌, ◌-◌, ◌≤◌, eqb, length, take, drop};
 ghost use Rattle.cdi.specs.Lists.{any, begins};

@@ -1,4 +1,5 @@
 // A start tag, read once: where it ends, and what its attributes give.
+#![tactic(auto)]
 
 ghost use Rattle.std.specs.Prelude.{◌≡◌, [], ◌≤◌, ◌<◌, length, drop};
 ghost use Rattle.cdi.specs.Lists.{any};

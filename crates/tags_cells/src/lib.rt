@@ -1,4 +1,5 @@
 // What a tag's attributes say, noted by their numbers as they are met: for each of the ten names the code and the amount of its first value.
+#![tactic(auto)]
 
 ghost use Rattle.std.specs.Prelude.{◌≡◌, ◌≤◌, get_or};
 ghost use Rattle.rules_judge.specs.Tables.{size_in};

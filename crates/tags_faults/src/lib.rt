@@ -1,5 +1,6 @@
 // The faults of a tag's attributes against the rules of its element that stand at the tag's `<`, by the codes of their values: the number of the least,
 // or 0. Those of names and texts stand at the names.
+#![tactic(auto)]
 
 ghost use Rattle.std.specs.Prelude.{◌≡◌, ◌≤◌, ◌<◌};
 ghost use Rattle.tags_faults.specs.Told.{known_set, has_bit, lesser_of, own_by, needed_by, there_by, int_by, float_by, rules_by};

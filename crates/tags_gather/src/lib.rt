@@ -1,4 +1,5 @@
 // The attributes of a tag, each read once: where they end, and what they say.
+#![tactic(auto)]
 
 ghost use Rattle.std.specs.Prelude.{◌≡◌, not, ◌≤◌, eqb, length, drop, get_or};
 ghost use Rattle.cdi.specs.Pieces.{attributes};

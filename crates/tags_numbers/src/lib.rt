@@ -1,4 +1,5 @@
 // The numbers that a tag gives, by the codes and the amounts of its attributes.
+#![tactic(auto)]
 
 ghost use Rattle.std.specs.Prelude.{◌≡◌, [], cond, ◌≤◌, eqb};
 ghost use Rattle.tally_tag.specs.Numbered.{numbers_by};

@@ -1,4 +1,5 @@
 // The next attribute of a tag, read once: its places, the number of its name, and whether `&` stands in its value.
+#![tactic(auto)]
 
 ghost use Rattle.std.specs.Prelude.{◌≡◌, false, ◌≤◌, length};
 ghost use Rattle.cdi.specs.Pieces.{is_quote};

@@ -1,5 +1,6 @@
 // What an attribute's value is by the attribute's number: a code, which is 1 for a good value, 2 for a good one below zero, else the number of its
 // fault, and the amount that it says. A size is held against the range of a string's.
+#![tactic(auto)]
 
 ghost use Rattle.std.specs.Prelude.{◌≡◌, true, false, cond, ◌≤◌, ◌<◌, pos};
 ghost use Rattle.cdi.specs.Numbers.{within};

@@ -1,4 +1,5 @@
 // The attributes of a tag that are unknown or have a wrong text: the first of them, whose fault stands at its name.
+#![tactic(auto)]
 
 ghost use Rattle.std.specs.Prelude.{◌≡◌, false, ◌≤◌, ◌<◌, length, drop};
 ghost use Rattle.cdi.specs.Faults.{least};

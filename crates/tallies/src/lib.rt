@@ -1,4 +1,5 @@
 // Leaving an element: what is known of the walk behind it, and the record that is written then. Nothing here can overflow.
+#![tactic(auto)]
 
 ghost use Rattle.std.specs.Prelude.{◌≡◌, cond, ◌%◌, ◌^◌, ◌≤◌, ◌<◌, eqb, length};
 ghost use Rattle.tally_tag.specs.Numbered.{leave_by, written_by};

@@ -1,5 +1,6 @@
 // The parts of leaving an element: the extent of a data element, and the numbers of its record; a segment's origin, and the first that leaves the
 // addresses; the variables.
+#![tactic(auto)]
 
 ghost use Rattle.std.specs.Prelude.{◌≡◌, cond, ◌^◌, ◌≤◌, ◌<◌, min, eqb};
 ghost use Rattle.cdi.specs.Rules.{natural};

@@ -1,4 +1,5 @@
 // The record of an element: eight numbers at the index that was kept for it. Rows that have no room for it are left as they are.
+#![tactic(auto)]
 
 ghost use Rattle.std.specs.Prelude.{◌≡◌, ◌+◌, ◌*◌, ◌%◌, ◌^◌, ◌≤◌, ◌<◌, length};
 ghost use Rattle.std.proofs.lemmas.List.Edits.{sets};

@@ -1,4 +1,5 @@
 // What is known of the walk while the elements are read, as flat numbers, and what is known inside an element before its content.
+#![tactic(auto)]
 
 ghost use Rattle.std.specs.Prelude.{◌≡◌, cond, ◌||◌, ◌+◌, ◌≤◌, ◌<◌, eqb};
 ghost use Rattle.tally_tag.specs.Tallying.{at_start};

@@ -1,4 +1,5 @@
 // No code: the numbers of a tag and what is known of the walk, as types, with their definitions and the laws of a tag's numbers.
+#![tactic(auto)]
 
 use extent::Extent;
 

@@ -1,4 +1,5 @@
 // Terms of document 01 that several crates need, each once in the code; in the definitions the limits stand in `Limits` of `cdi`. No functions.
+#![tactic(auto)]
 
 // "the 22 bytes `<?xml version="1.0"?>` and newline": where the pieces begin.
 pub const FIRST_LINE: usize = 22;

@@ -1,4 +1,5 @@
 // The text and its end: where the content ends, whether it is all characters that are allowed, and whether it begins with the first line.
+#![tactic(auto)]
 
 ghost use Rattle.std.specs.Prelude.{◌≡◌, ◌≤◌, min, length, drop};
 ghost use Rattle.cdi.specs.Lists.{begins};

@@ -1,4 +1,5 @@
 // The character that stands at a place, by RFC 3629: its number and its width.
+#![tactic(auto)]
 
 ghost use Rattle.std.specs.Prelude.{◌≡◌, true, ◌&&◌, [], ◌∷◌, ◌+◌, ◌*◌, ◌-◌, ◌≤◌, leb, drop};
 ghost use Rattle.cdi.specs.Lists.{between};

@@ -1,4 +1,5 @@
 // Runs of bytes that pass a test, eight bytes at a step: bytes that are characters by themselves, and bytes other than zero.
+#![tactic(auto)]
 
 ghost use Rattle.std.specs.Prelude.{◌≡◌, ◌&&◌, ◌+◌, ◌≤◌, length};
 ghost use Rattle.text_runs.specs.Runs.{plain, nonzero, AllOf};

@@ -1,4 +1,5 @@
 // The end of the content and the check of its characters under C names, so that bench/ can time them. No part of the library.
+#![tactic(auto)]
 
 ghost use Rattle.std.specs.Prelude.{◌≡◌, length};
 ghost use Rattle.cdi.specs.Text.{bad_character, is_utf8};

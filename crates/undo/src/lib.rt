@@ -1,5 +1,6 @@
 // Edits that can be taken back: a text, the exact records planned from it, a window, a journal and the session value in; the next session value or a
 // refusal out. A refusal leaves session, window and journal as they were.
+#![tactic(auto)]
 
 ghost use Rattle.std.specs.Prelude.{◌≡◌};
 ghost use Rattle.cdi.specs.Faults.{accepted};

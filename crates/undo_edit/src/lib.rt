@@ -1,4 +1,5 @@
 // An edit: a value into the window, and the bytes that it replaces into the journal. Nothing is written before it is known that both can be.
+#![tactic(auto)]
 
 ghost use Rattle.std.specs.Prelude.{◌≡◌};
 ghost use Rattle.maps.specs.Matches.{wanted_of};

@@ -1,4 +1,5 @@
 // Entries of a journal: number and size, four bytes each, then the old bytes; one behind the other from byte 0, in the first 65,536 bytes of the journal.
+#![tactic(auto)]
 
 ghost use Rattle.std.specs.Prelude.{◌≡◌, ◌+◌, ◌≤◌, min, length};
 ghost use Rattle.undo_model.specs.Journal.{entry_bytes, room};

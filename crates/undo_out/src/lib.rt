@@ -1,4 +1,5 @@
 // What edits and undos hand out: the number of a refusal or 0 as the result, its place, and how many edits stand, through the session value that is lent.
+#![tactic(auto)]
 
 ghost use Rattle.std.specs.Prelude.{◌≡◌};
 ghost use Rattle.outcomes.specs.Outcomes.{number_in, place_after, value_after};

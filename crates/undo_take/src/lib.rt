@@ -1,4 +1,5 @@
 // Taking the latest edit back: its old bytes into the window. The journal is only read.
+#![tactic(auto)]
 
 ghost use Rattle.std.specs.Prelude.{◌≡◌, ◌≤◌};
 ghost use Rattle.cdi.specs.Faults.{accepted};

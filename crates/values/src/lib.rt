@@ -1,4 +1,5 @@
 // Values in bytes: numbers big-endian over the whole of a part, signed ones in two's complement, text with zeros behind it.
+#![tactic(auto)]
 
 ghost use Rattle.std.specs.Prelude.{◌≡◌, ◌+◌, ◌*◌, ◌^◌, ◌≤◌, ◌<◌, length};
 ghost use Rattle.cdi.specs.Text.{zero_from};

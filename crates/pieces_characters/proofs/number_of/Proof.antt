@@ -4,10 +4,10 @@ use Rattle.pieces_characters.proofs.Numbering.{Counting, count_loop}
 use Rattle.pieces_characters.proofs.number_of.Statement.{statement}
 use Rattle.pieces_characters.proofs.number_of.Tie as tie
 
-abbrev invariant-loop : tie.invariant-loop
+abbrev invariant-loop : tie.invariant-loop-i
 invariant-loop hex digits code₀ i₀ code i = Counting hex digits code i
 
-abbrev decreases-loop : tie.decreases-loop
+abbrev decreases-loop : tie.decreases-loop-i
 decreases-loop hex digits code₀ i₀ code i = length digits - i
 
 pub number_of_spec : {M : Type 1} → statement M

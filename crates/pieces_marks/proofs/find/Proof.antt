@@ -4,10 +4,10 @@ use Rattle.pieces_cuts.proofs.Finding.{Seeking, find_loop}
 use Rattle.pieces_marks.proofs.find.Statement.{statement}
 use Rattle.pieces_marks.proofs.find.Tie as tie
 
-abbrev invariant-loop : tie.invariant-loop
+abbrev invariant-loop : tie.invariant-loop-i
 invariant-loop s at word i₀ i = Seeking word s at i
 
-abbrev decreases-loop : tie.decreases-loop
+abbrev decreases-loop : tie.decreases-loop-i
 decreases-loop s at word i₀ i = length s - i
 
 pub find_spec : {M : Type 1} → statement M

@@ -5,10 +5,10 @@ use lib.ListN.{length}
 use Rattle.spans.proofs.blanks.Statement.{statement}
 use Rattle.spans.proofs.blanks.Tie as tie
 
-abbrev invariant-loop : tie.invariant-loop
+abbrev invariant-loop : tie.invariant-loop-i
 invariant-loop s at i₀ i = Spanning blank s at i
 
-abbrev decreases-loop : tie.decreases-loop
+abbrev decreases-loop : tie.decreases-loop-i
 decreases-loop s at i₀ i = length s - i
 
 pub blanks_spec : {M : Type 1} → statement M

@@ -6,10 +6,10 @@ use Rattle.scan.proofs.Spans.{Spanning, span_loop}
 use Rattle.spans.proofs.name_rest.Statement.{statement}
 use Rattle.spans.proofs.name_rest.Tie as tie
 
-abbrev invariant-loop : tie.invariant-loop
+abbrev invariant-loop : tie.invariant-loop-i
 invariant-loop s at i₀ i = Spanning (of_class Name) s at i
 
-abbrev decreases-loop : tie.decreases-loop
+abbrev decreases-loop : tie.decreases-loop-i
 decreases-loop s at i₀ i = length s - i
 
 pub name_rest_spec : {M : Type 1} → statement M

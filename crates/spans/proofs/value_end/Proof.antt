@@ -6,10 +6,10 @@ use lib.ListN.{length}
 use Rattle.spans.proofs.value_end.Statement.{statement}
 use Rattle.spans.proofs.value_end.Tie as tie
 
-abbrev invariant-loop : tie.invariant-loop
+abbrev invariant-loop : tie.invariant-loop-i
 invariant-loop s at quote i₀ refers₀ i refers = Spanning (value_byte quote) s at i × Seeing (value_byte quote) s at i refers
 
-abbrev decreases-loop : tie.decreases-loop
+abbrev decreases-loop : tie.decreases-loop-i
 decreases-loop s at quote i₀ refers₀ i refers = length s - i
 
 pub value_end_spec : {M : Type 1} → statement M

@@ -6,10 +6,10 @@ use Rattle.scan.proofs.Spans.{Spanning, span_loop}
 use Rattle.spans.proofs.value_rest.Statement.{statement}
 use Rattle.spans.proofs.value_rest.Tie as tie
 
-abbrev invariant-loop : tie.invariant-loop
+abbrev invariant-loop : tie.invariant-loop-i
 invariant-loop s at quote i₀ i = Spanning (of_class (Value quote)) s at i
 
-abbrev decreases-loop : tie.decreases-loop
+abbrev decreases-loop : tie.decreases-loop-i
 decreases-loop s at quote i₀ i = length s - i
 
 pub value_rest_spec : {M : Type 1} → statement M

@@ -5,10 +5,10 @@ use lib.ListN.{length}
 use Rattle.text_runs.proofs.plain_run.Statement.{statement}
 use Rattle.text_runs.proofs.plain_run.Tie as tie
 
-abbrev invariant-loop : tie.invariant-loop
+abbrev invariant-loop : tie.invariant-loop-k
 invariant-loop s at i k₀ k = (at ≤ i) × (i + 8 ≤ length s) × (k ≤ 8) × Inside plain s at i k
 
-abbrev decreases-loop : tie.decreases-loop
+abbrev decreases-loop : tie.decreases-loop-k
 decreases-loop s at i k₀ k = 8 - k
 
 abbrev invariant-run : tie.invariant-run

@@ -4,10 +4,10 @@ use Rattle.undo_entries.proofs.Along.{walk_loop}
 use Rattle.undo_entries.proofs.beginning_of.Statement.{statement}
 use Rattle.undo_entries.proofs.beginning_of.Tie as tie
 
-abbrev invariant-loop : tie.invariant-loop
+abbrev invariant-loop : tie.invariant-loop-i
 invariant-loop room k length at₀ i₀ at i = Reached room i at × (i ≤ k)
 
-abbrev decreases-loop : tie.decreases-loop
+abbrev decreases-loop : tie.decreases-loop-i
 decreases-loop room k length at₀ i₀ at i = k - i
 
 pub beginning_of_spec : {M : Type 1} → statement M

@@ -3,10 +3,10 @@ use Rattle.values.proofs.Complements.{most_of, Largest}
 use Rattle.values.proofs.largest.Statement.{statement}
 use Rattle.values.proofs.largest.Tie as tie
 
-abbrev invariant-loop : tie.invariant-loop
+abbrev invariant-loop : tie.invariant-loop-i
 invariant-loop size most₀ i₀ most i = Largest size most i
 
-abbrev decreases-loop : tie.decreases-loop
+abbrev decreases-loop : tie.decreases-loop-i
 decreases-loop size most₀ i₀ most i = size - i
 
 pub largest_spec : {M : Type 1} → statement M

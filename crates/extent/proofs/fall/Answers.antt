@@ -1,0 +1,9 @@
+use Rattle.extent.proofs.Signed.{turn_fits, turn_casts, turn_more, falls, falls_not}
+use Rattle.extent.proofs.fall.Reads as reads
+use Rattle.extent.proofs.fall.Goals as goal
+
+pub returns-then-z-lt0 : goal.returns-then-z-lt0
+returns-then-z-lt0 c = falls c.args.z c.ranges.z c.if-z-lt0.true
+
+pub returns : goal.returns
+returns c = falls_not c.args.z c.ranges.z c.if-z-lt0.false

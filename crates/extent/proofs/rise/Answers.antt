@@ -1,0 +1,9 @@
+use Rattle.extent.proofs.Signed.{rises_not, casts, rises}
+use Rattle.extent.proofs.rise.Reads as reads
+use Rattle.extent.proofs.rise.Goals as goal
+
+pub returns-then-z-lt0 : goal.returns-then-z-lt0
+returns-then-z-lt0 c = rises_not c.args.z c.ranges.z c.if-z-lt0.true
+
+pub returns : goal.returns
+returns c = rises c.args.z c.ranges.z c.if-z-lt0.false

@@ -1,0 +1,6 @@
+use borrow.Author.Rules.{rules}
+use Rattle.formatting.proofs.Formats.{tails}
+use Rattle.formatting.proofs.is_tail.Goals as goal
+
+pub returns : goal.returns
+returns c = search tails

@@ -1,0 +1,12 @@
+use Rattle.cdi.specs.Text.{mark}
+use borrow.Author.Rules.{rules}
+use Rattle.text.proofs.Checks.{mark_test}
+use Rattle.text.proofs.is_marked.Goals as goal
+
+pub returns-then-byte_at-eq239 : goal.returns-then-byte_at-eq239
+unfolding mark
+returns-then-byte_at-eq239 c = search mark_test
+
+pub returns : goal.returns
+unfolding mark
+returns c = search mark_test
