@@ -12,39 +12,35 @@ use reference::{answer, Access, Answer, Case, Frames, Refusal};
 /// How many statements stand in one file.
 const PER_FILE: usize = 25;
 
-const USES: &str = "use mathlib.Core.Path.{_≡_, refl}
-use mathlib.Core.List.{List, [], _∷_, _++_}
-use mathlib.Core.Bool.{true, false}
-use Prim.Native.Nat.{ℕ, zero, suc, _+_}
-use lib.IntN.{ℤ, pos, negsuc}
-use Rattle·cdi.specs.Lists.{ascii}
-use Rattle·cdi.specs.Faults.{Answer, accepted, refused, fault}
-use Rattle·cdi.specs.Walk.{Found}
-use Rattle·cdi.specs.Plans.{locating}
-use Rattle·cdi.specs.Planning.{Counts, planned, tableAfter}
-use Rattle·cdi.specs.Values.{withSign}
-use Rattle·cdi.specs.Access.{Window, Value, integer, event, string, written, windowAfter, Reading, read}
-use Rattle·cdi.specs.Worked.{all-pages}
+const USES: &str = "use Rattle.std.specs.Prelude.{◌≡◌, refl, List, [], ◌∷◌, ◌++◌, true, false, ℕ, zero, suc, ◌+◌, ℤ, pos, negsuc}
+use Rattle.cdi.specs.Lists.{ascii}
+use Rattle.cdi.specs.Faults.{Answer, accepted, refused, fault}
+use Rattle.cdi.specs.Walk.{Found}
+use Rattle.cdi.specs.Plans.{locating}
+use Rattle.cdi.specs.Planning.{Counts, planned, table_after}
+use Rattle.cdi.specs.Values.{with_sign}
+use Rattle.cdi.specs.Access.{Window, Value, integer, event, string, written, window_after, Reading, read}
+use Rattle.cdi.specs.Worked.{all_pages}
 ";
 
 /// What a frame asks, as one definition for each kind of frame, with the lent memory afterwards.
 const ASKED: &str = "
 -- number i of a lent table holds -7 - i
-unfoldable pub lentFrom : ℕ → ℕ → List ℤ
-lentFrom i zero = []
-lentFrom i (suc n) = negsuc (6 + i) ∷ lentFrom (i + 1) n
+unfoldable pub lent_from : ℕ → ℕ → List ℤ
+lent_from i zero = []
+lent_from i (suc n) = negsuc (6 + i) ∷ lent_from (i + 1) n
 
 unfoldable pub plans : ℕ → List ℕ → Answer Counts × List ℤ
-plans room text = (planned text (lentFrom 0 room), tableAfter text (lentFrom 0 room))
+plans room text = (planned text (lent_from 0 room), table_after text (lent_from 0 room))
 
 unfoldable pub window : ℕ → ℕ → List ℕ → Window
 window space first bytes = record { space = space; first = first; bytes = bytes }
 
 unfoldable pub writes : List ℕ → List ℤ → ℕ → Window → Value → Answer (Unit {0}) × List ℕ
-writes text table n w v = (written text table n w v, windowAfter text table n w v)
+writes text table n w v = (written text table n w v, window_after text table n w v)
 
 unfoldable pub asked : Unit {0}
-unfolding all-pages lentFrom plans window writes
+unfolding all_pages lent_from plans window writes
 asked = tt
 ";
 
@@ -121,7 +117,7 @@ fn question(case: &Case, text: &str) -> (Vec<u8>, String) {
         Case::Locate { table: lent, n } => (Vec::new(), format!("locating {} {n}", table(lent))),
         Case::WriteInteger { access, negative, magnitude } => (
             access.text.clone(),
-            format!("writes {text} {} (integer (withSign {negative} {magnitude}))", accessed(access)),
+            format!("writes {text} {} (integer (with_sign {negative} {magnitude}))", accessed(access)),
         ),
         Case::WriteEvent { access, value } => {
             (access.text.clone(), format!("writes {text} {} (event {value})", accessed(access)))
@@ -161,11 +157,11 @@ fn told(answer: &Answer) -> String {
 }
 
 fn statement(index: usize, case: &Case) -> String {
-    let name = format!("text-{index}");
+    let name = format!("text_{index}");
     let (text, asked) = question(case, &name);
     let told = told(&answer(case));
     format!(
-        "\n{name} : List ℕ\n{name} = {}\n\ncase-{index} : {asked} ≡ {told}\nunfolding asked {name}\ncase-{index} = refl\n",
+        "\n{name} : List ℕ\n{name} = {}\n\ncase_{index} : {asked} ≡ {told}\nunfolding asked {name}\ncase_{index} = refl\n",
         bytes(&text)
     )
 }
@@ -185,7 +181,7 @@ fn put(folder: &Path, cases: &[Case]) -> io::Result<()> {
     let crate_name = folder.file_name().map(|name| name.to_string_lossy().into_owned()).unwrap_or_default();
     let mut modules = String::from("pub mod Asked\n");
     for (part, cases) in cases.chunks(PER_FILE).enumerate() {
-        let uses = format!("{USES}use Rattle·{crate_name}·specs.specs.Asked.{{plans, window, writes, asked}}\n");
+        let uses = format!("{USES}use Rattle.{crate_name}.specs.Asked.{{plans, window, writes, asked}}\n");
         let statements: String =
             cases.iter().enumerate().map(|(index, case)| statement(part * PER_FILE + index, case)).collect();
         fs::write(folder.join(format!("specs/Part{part}.antt")), format!("-- Statements.\n{uses}{statements}"))?;
