@@ -12,7 +12,8 @@ use reference::{answer, Access, Answer, Case, Frames, Refusal};
 /// How many statements stand in one file.
 const PER_FILE: usize = 25;
 
-const USES: &str = "use Rattle.std.specs.Prelude.{◌≡◌, refl, List, [], ◌∷◌, ◌++◌, true, false, ℕ, zero, suc, ◌+◌, ℤ, pos, negsuc}
+const USES: &str =
+    "use Rattle.std.specs.Prelude.{◌≡◌, refl, List, [], ◌∷◌, ◌++◌, true, false, ℕ, zero, suc, ◌+◌, ℤ, pos, negsuc}
 use Rattle.cdi.specs.Lists.{ascii}
 use Rattle.cdi.specs.Faults.{Answer, accepted, refused, fault}
 use Rattle.cdi.specs.Walk.{Found}
