@@ -1,0 +1,6 @@
+use borrow.Author.Rules.{rules}
+use Rattle.settings_bounds.proofs.Bounding.{signing}
+use Rattle.settings_bounds.proofs.is_signed.Goals as goal
+
+pub returns : goal.returns
+returns c = search signing
