@@ -31,12 +31,7 @@ pub fn planksling_locate(
 }
 
 // The variables n, n + 1, .. of any table, five numbers each, as many as there is room for or remain; or 20.
-pub fn planksling_list(
-    table: &[i64],
-    n: u64,
-    out: &mut [u64],
-    count: &mut usize,
-) -> usize
+pub fn planksling_list(table: &[i64], n: u64, out: &mut [u64], count: &mut usize) -> usize
     ensures value { result ≡ number_in (listing table.now n out.old) }
     ensures count_after { count.new ≡ value_after (λ a. a) (listing table.now n out.old) count.old }
     ensures out_after { out.new ≡ out_after table.now n out.old }

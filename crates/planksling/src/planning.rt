@@ -39,12 +39,7 @@ pub fn planksling_check_plan(table: &[i64]) -> usize
 }
 
 // Is the table exactly the one planned from the text? The end of the text's content; or 1 to 7, 81 to 88, 9 to 12, 20.
-pub fn planksling_check(
-    text: &[u8],
-    table: &[i64],
-    end: &mut usize,
-    place: &mut usize,
-) -> usize
+pub fn planksling_check(text: &[u8], table: &[i64], end: &mut usize, place: &mut usize) -> usize
     ensures value { result ≡ number_in (known_of text.now table.now) }
     ensures end_after { end.new ≡ value_after (λ a. a) (known_of text.now table.now) end.old }
     ensures place_after { place.new ≡ place_after (known_of text.now table.now) place.old }

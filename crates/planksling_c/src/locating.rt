@@ -61,7 +61,15 @@ pub extern "C" fn planksling_locate_checked(
     ensures size_after { size.new ≡ value_after (λ (a : Found). a.size) (variable_of (segments_of table.now) n) size.old }
     ensures kind_after { kind.new ≡ value_after (λ (a : Found). a.kind) (variable_of (segments_of table.now) n) kind.old }
 {
-    planksling::locating::planksling_locate_checked(table, n, record_number, space, address, size, kind)
+    planksling::locating::planksling_locate_checked(
+        table,
+        n,
+        record_number,
+        space,
+        address,
+        size,
+        kind,
+    )
 }
 
 // The variables n, n + 1, .. of a table that is a plan. Returns how many: it can't be refused.

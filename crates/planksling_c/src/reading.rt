@@ -33,7 +33,9 @@ pub extern "C" fn planksling_read(
     ensures writable_after { writable.new ≡ value_after (λ (a : Shown). a.writable) (shown text.now table.now n space first window.now) writable.old }
     ensures place_after { place.new ≡ place_after (shown text.now table.now n space first window.now) place.old }
 {
-    planksling::reading::planksling_read(text, table, n, space, first, window, kind, negative, number, from, to, writable, place)
+    planksling::reading::planksling_read(
+        text, table, n, space, first, window, kind, negative, number, from, to, writable, place,
+    )
 }
 
 // Reads variable n of a text and a table that have been checked; the place of every refusal is 0.
@@ -62,5 +64,7 @@ pub extern "C" fn planksling_read_checked(
     ensures to_after { to.new ≡ value_after (λ (a : Shown). a.to) (shown text.now table.now n space first window.now) to.old }
     ensures writable_after { writable.new ≡ value_after (λ (a : Shown). a.writable) (shown text.now table.now n space first window.now) writable.old }
 {
-    planksling::reading::planksling_read_checked(text, end, table, n, space, first, window, kind, negative, number, from, to, writable)
+    planksling::reading::planksling_read_checked(
+        text, end, table, n, space, first, window, kind, negative, number, from, to, writable,
+    )
 }

@@ -34,7 +34,9 @@ pub extern "C" fn planksling_edit_integer(
     ensures window_after { window.new ≡ window_left (state_of session.old space first window.old journal.old) (edited text.now table.now (edit_of n (wanted_of (Number (ltb 0 negative) magnitude) no_text)) (state_of session.old space first window.old journal.old)) }
     ensures journal_after { journal.new ≡ journal_left (state_of session.old space first window.old journal.old) (edited text.now table.now (edit_of n (wanted_of (Number (ltb 0 negative) magnitude) no_text)) (state_of session.old space first window.old journal.old)) }
 {
-    planksling::sessions::planksling_edit_integer(text, table, n, space, first, window, journal, session, negative, magnitude, place)
+    planksling::sessions::planksling_edit_integer(
+        text, table, n, space, first, window, journal, session, negative, magnitude, place,
+    )
 }
 
 // Edits with an event ID.
@@ -57,7 +59,9 @@ pub extern "C" fn planksling_edit_event(
     ensures window_after { window.new ≡ window_left (state_of session.old space first window.old journal.old) (edited text.now table.now (edit_of n (wanted_of (Event id) no_text)) (state_of session.old space first window.old journal.old)) }
     ensures journal_after { journal.new ≡ journal_left (state_of session.old space first window.old journal.old) (edited text.now table.now (edit_of n (wanted_of (Event id) no_text)) (state_of session.old space first window.old journal.old)) }
 {
-    planksling::sessions::planksling_edit_event(text, table, n, space, first, window, journal, session, id, place)
+    planksling::sessions::planksling_edit_event(
+        text, table, n, space, first, window, journal, session, id, place,
+    )
 }
 
 // Edits with a text.
@@ -80,7 +84,9 @@ pub extern "C" fn planksling_edit_text(
     ensures window_after { window.new ≡ window_left (state_of session.old space first window.old journal.old) (edited text.now table.now (edit_of n (wanted_of Text string.now)) (state_of session.old space first window.old journal.old)) }
     ensures journal_after { journal.new ≡ journal_left (state_of session.old space first window.old journal.old) (edited text.now table.now (edit_of n (wanted_of Text string.now)) (state_of session.old space first window.old journal.old)) }
 {
-    planksling::sessions::planksling_edit_text(text, table, n, space, first, window, journal, session, string, place)
+    planksling::sessions::planksling_edit_text(
+        text, table, n, space, first, window, journal, session, string, place,
+    )
 }
 
 // Takes the latest edit back.
@@ -100,7 +106,9 @@ pub extern "C" fn planksling_undo(
     ensures place_after { place.new ≡ place_after (answered (undone text.now table.now (state_of session.old space first window.old journal.now))) place.old }
     ensures window_after { window.new ≡ window_left (state_of session.old space first window.old journal.now) (undone text.now table.now (state_of session.old space first window.old journal.now)) }
 {
-    planksling::sessions::planksling_undo(text, table, space, first, window, journal, session, place)
+    planksling::sessions::planksling_undo(
+        text, table, space, first, window, journal, session, place,
+    )
 }
 
 // ── of a text and a table that have been checked; the place of every refusal is 0 ──
@@ -126,7 +134,9 @@ pub extern "C" fn planksling_edit_integer_checked(
     ensures window_after { window.new ≡ window_left (state_of session.old space first window.old journal.old) (edited text.now table.now (edit_of n (wanted_of (Number (ltb 0 negative) magnitude) no_text)) (state_of session.old space first window.old journal.old)) }
     ensures journal_after { journal.new ≡ journal_left (state_of session.old space first window.old journal.old) (edited text.now table.now (edit_of n (wanted_of (Number (ltb 0 negative) magnitude) no_text)) (state_of session.old space first window.old journal.old)) }
 {
-    planksling::sessions::planksling_edit_integer_checked(text, end, table, n, space, first, window, journal, session, negative, magnitude)
+    planksling::sessions::planksling_edit_integer_checked(
+        text, end, table, n, space, first, window, journal, session, negative, magnitude,
+    )
 }
 
 // Edits with an event ID.
@@ -149,7 +159,9 @@ pub extern "C" fn planksling_edit_event_checked(
     ensures window_after { window.new ≡ window_left (state_of session.old space first window.old journal.old) (edited text.now table.now (edit_of n (wanted_of (Event id) no_text)) (state_of session.old space first window.old journal.old)) }
     ensures journal_after { journal.new ≡ journal_left (state_of session.old space first window.old journal.old) (edited text.now table.now (edit_of n (wanted_of (Event id) no_text)) (state_of session.old space first window.old journal.old)) }
 {
-    planksling::sessions::planksling_edit_event_checked(text, end, table, n, space, first, window, journal, session, id)
+    planksling::sessions::planksling_edit_event_checked(
+        text, end, table, n, space, first, window, journal, session, id,
+    )
 }
 
 // Edits with a text.
@@ -172,7 +184,9 @@ pub extern "C" fn planksling_edit_text_checked(
     ensures window_after { window.new ≡ window_left (state_of session.old space first window.old journal.old) (edited text.now table.now (edit_of n (wanted_of Text string.now)) (state_of session.old space first window.old journal.old)) }
     ensures journal_after { journal.new ≡ journal_left (state_of session.old space first window.old journal.old) (edited text.now table.now (edit_of n (wanted_of Text string.now)) (state_of session.old space first window.old journal.old)) }
 {
-    planksling::sessions::planksling_edit_text_checked(text, end, table, n, space, first, window, journal, session, string)
+    planksling::sessions::planksling_edit_text_checked(
+        text, end, table, n, space, first, window, journal, session, string,
+    )
 }
 
 // Takes the latest edit back.
@@ -192,5 +206,7 @@ pub extern "C" fn planksling_undo_checked(
     ensures session_after { session.new ≡ value_after (λ s. s) (answered (undone text.now table.now (state_of session.old space first window.old journal.now))) session.old }
     ensures window_after { window.new ≡ window_left (state_of session.old space first window.old journal.now) (undone text.now table.now (state_of session.old space first window.old journal.now)) }
 {
-    planksling::sessions::planksling_undo_checked(text, end, table, space, first, window, journal, session)
+    planksling::sessions::planksling_undo_checked(
+        text, end, table, space, first, window, journal, session,
+    )
 }

@@ -28,7 +28,9 @@ pub extern "C" fn planksling_write_integer(
     ensures place_after { place.new ≡ place_after (written text.now table.now n (window_of space first window.old) (wanted_of (Number (ltb 0 negative) magnitude) no_text)) place.old }
     ensures window_after { window.new ≡ window_after text.now table.now n (window_of space first window.old) (wanted_of (Number (ltb 0 negative) magnitude) no_text) }
 {
-    planksling::writing::planksling_write_integer(text, table, n, space, first, window, negative, magnitude, place)
+    planksling::writing::planksling_write_integer(
+        text, table, n, space, first, window, negative, magnitude, place,
+    )
 }
 
 // Writes an event ID.
@@ -88,7 +90,9 @@ pub extern "C" fn planksling_write_integer_checked(
     ensures value { result ≡ number_in (written text.now table.now n (window_of space first window.old) (wanted_of (Number (ltb 0 negative) magnitude) no_text)) }
     ensures window_after { window.new ≡ window_after text.now table.now n (window_of space first window.old) (wanted_of (Number (ltb 0 negative) magnitude) no_text) }
 {
-    planksling::writing::planksling_write_integer_checked(text, end, table, n, space, first, window, negative, magnitude)
+    planksling::writing::planksling_write_integer_checked(
+        text, end, table, n, space, first, window, negative, magnitude,
+    )
 }
 
 // Writes an event ID.
@@ -107,7 +111,9 @@ pub extern "C" fn planksling_write_event_checked(
     ensures value { result ≡ number_in (written text.now table.now n (window_of space first window.old) (wanted_of (Event id) no_text)) }
     ensures window_after { window.new ≡ window_after text.now table.now n (window_of space first window.old) (wanted_of (Event id) no_text) }
 {
-    planksling::writing::planksling_write_event_checked(text, end, table, n, space, first, window, id)
+    planksling::writing::planksling_write_event_checked(
+        text, end, table, n, space, first, window, id,
+    )
 }
 
 // Writes a text.
@@ -126,5 +132,7 @@ pub extern "C" fn planksling_write_text_checked(
     ensures value { result ≡ number_in (written text.now table.now n (window_of space first window.old) (wanted_of Text string.now)) }
     ensures window_after { window.new ≡ window_after text.now table.now n (window_of space first window.old) (wanted_of Text string.now) }
 {
-    planksling::writing::planksling_write_text_checked(text, end, table, n, space, first, window, string)
+    planksling::writing::planksling_write_text_checked(
+        text, end, table, n, space, first, window, string,
+    )
 }
