@@ -13,7 +13,7 @@ pub loop-i-preserved : goal.loop-i-preserved
 loop-i-preserved c = let second = c in
     let first = second in
     let turn = first in
-    alike_next turn.loop-i.invariant turn.loop_test.true (same_word (record { sfits = first.t10-1.given }) (record { sfits = second.t13-1.given }) c.if-a-i.false)
+    alike_next turn.loop-i.invariant turn.loop-i-test.true (same_word (record { sfits = first.t10-1.given }) (record { sfits = second.t13-1.given }) c.if-a-i.false)
 
 pub returns : goal.returns
 returns c = search comparing

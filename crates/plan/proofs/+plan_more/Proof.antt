@@ -48,7 +48,7 @@ pub +plan_more_spec : {M : Type 1} → statement M
     (λ c. search rules)
     (λ c κs. search rules)
     (λ c. search rules)
-    (λ c κs. room_known c.before.before.before.has_room_law.ensures c.before.before.if2.true)
+    (λ c κs. room_known c.before.before.before.has_room.ensures c.before.before.if2.true)
     (λ c. search rules)
     (λ c. search planning)
     (λ c κs. search rules)

@@ -13,7 +13,7 @@ plan_few_spec =
     (λ c. search rules)
     (λ c κs. search rules)
     (λ c. search rules)
-    (λ c κs. room_known c.before.before.before.has_room_law.ensures c.before.before.if1.true)
+    (λ c κs. room_known c.before.before.before.has_room.ensures c.before.before.if1.true)
     (λ c. search rules)
     (λ c. search planning)
     (λ c κs. search rules)

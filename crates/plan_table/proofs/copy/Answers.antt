@@ -1,0 +1,12 @@
+use mir.Facts.{to_z-of_z}
+use borrow.Author.Rules.{rules}
+use Prim.Native.Nat.{◌-◌}
+use lib.ListN.{length}
+use Rattle.plan_table.proofs.Placing.{copying, copy_next, Copied}
+use Rattle.plan_table.proofs.copy.Goals as goal
+
+pub loop-i-preserved : goal.loop-i-preserved
+loop-i-preserved c = copy_next c.loop-i.invariant (search rules) (search rules) (search rules)
+
+pub returns : goal.returns
+returns c = search copying
