@@ -1,4 +1,3 @@
-use borrow.Author.Rules.{rules}
 use Rattle.lines_items.proofs.Putting.{parts}
 use Rattle.lines_items.proofs.put_kind.Goals as goal
 
