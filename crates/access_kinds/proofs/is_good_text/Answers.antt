@@ -1,4 +1,3 @@
-use borrow.Author.Rules.{rules}
 use Rattle.access_kinds.proofs.Deciding.{texts}
 use Rattle.access_kinds.proofs.is_good_text.Goals as goal
 

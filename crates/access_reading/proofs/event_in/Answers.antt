@@ -1,4 +1,3 @@
-use borrow.Author.Rules.{rules}
 use Rattle.access_reading.proofs.Fetching.{reading_event}
 use Rattle.access_reading.proofs.event_in.Goals as goal
 

@@ -1,5 +1,4 @@
 use native.Mathlib.Omega.{arith}
-use borrow.Author.Rules.{rules}
 use Rattle.access_reading.proofs.Fetching.{fetching, fetch_high}
 use Rattle.access_reading.proofs.fetch.Goals as goal
 

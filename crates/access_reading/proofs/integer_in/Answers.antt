@@ -1,4 +1,3 @@
-use borrow.Author.Rules.{rules}
 use Rattle.access_reading.proofs.Fetching.{reading_integer}
 use Rattle.access_reading.proofs.integer_in.Goals as goal
 

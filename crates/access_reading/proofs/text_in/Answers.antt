@@ -1,5 +1,4 @@
 use native.Mathlib.Omega.{arith}
-use borrow.Author.Rules.{rules}
 use Rattle.access_reading.proofs.Fetching.{reading_text, zero_inside}
 use Rattle.access_reading.proofs.text_in.Goals as goal
 

@@ -1,5 +1,4 @@
 use native.Mathlib.Omega.{arith}
-use borrow.Author.Rules.{rules}
 use Rattle.access_writing.proofs.Storing.{storing, to_inside}
 use Rattle.access_writing.proofs.store.Goals as goal
 

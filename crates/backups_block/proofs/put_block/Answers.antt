@@ -1,6 +1,5 @@
 use native.Mathlib.Omega.{arith}
-use borrow.Author.Rules.{rules}
-use Rattle.backups_block.proofs.Putting.{putting, block_put, front_put, head_put, marks_put, use_put}
+use Rattle.backups_block.proofs.Putting.{block_put, front_put, head_put, marks_put, use_put}
 use Rattle.backups_block.proofs.put_block.Goals as goal
 
 pub returns : goal.returns

@@ -1,4 +1,4 @@
-use Rattle.backups_check.proofs.Summing.{Summing, summing}
+use Rattle.backups_check.proofs.Summing.{summing}
 use Prim.Native.Nat.{◌-◌}
 use Rattle.backups_check.proofs.check_of.Goals as goal
 

@@ -1,4 +1,4 @@
-use Rattle.backups_check.proofs.Summing.{Summing, summing}
+use Rattle.backups_check.proofs.Summing.{Summing}
 use Prim.Native.Nat.{◌-◌}
 use Rattle.backups_check.proofs.check_of.Given as goal
 

@@ -1,4 +1,3 @@
-use borrow.Author.Rules.{rules}
 use Rattle.backups_storing.proofs.Storing.{storing_ways}
 use Rattle.backups_storing.proofs.store.Goals as goal
 

@@ -1,6 +1,5 @@
 use Prim.Native.Nat.{◌-◌}
-use lib.ListN.{length}
-use Rattle.children.proofs.Turning.{asking, Asking}
+use Rattle.children.proofs.Turning.{asking}
 use Rattle.children.proofs.content_of.Goals as goal
 
 pub returns-in-Nothing : goal.returns-in-Nothing

@@ -1,6 +1,6 @@
 use Prim.Native.Nat.{◌-◌}
 use lib.ListN.{length}
-use Rattle.children.proofs.Turning.{asking, Asking}
+use Rattle.children.proofs.Turning.{Asking}
 use Rattle.children.proofs.content_of.Given as goal
 
 abbrev pub invariant-loop-place : goal.invariant-loop-place

@@ -1,6 +1,5 @@
 use Prim.Native.Nat.{◌-◌}
-use lib.ListN.{length}
-use Rattle.contents.proofs.Decoding.{decoding, Decoding}
+use Rattle.contents.proofs.Decoding.{decoding}
 use Rattle.contents.proofs.is_decoded.Goals as goal
 
 pub loop-i-preserved-then-goes_on : goal.loop-i-preserved-then-goes_on

@@ -1,6 +1,6 @@
 use Prim.Native.Nat.{◌-◌}
 use lib.ListN.{length}
-use Rattle.contents.proofs.Decoding.{decoding, Decoding}
+use Rattle.contents.proofs.Decoding.{Decoding}
 use Rattle.contents.proofs.is_decoded.Given as goal
 
 abbrev pub invariant-loop-i : goal.invariant-loop-i

@@ -1,4 +1,3 @@
-use borrow.Author.Rules.{rules}
 use Rattle.judges_leave.proofs.Leaving.{leaving}
 use Rattle.judges_leave.proofs.leave.Goals as goal
 

@@ -1,6 +1,5 @@
-use borrow.Author.Rules.{rules}
 use Prim.Native.Nat.{◌-◌}
-use Rattle.listing.proofs.Listed.{ListedTo, list_loop, list_needs, list_copying}
+use Rattle.listing.proofs.Listed.{ListedTo}
 use Rattle.listing.proofs.list_known.Given as goal
 
 abbrev pub invariant-loop-i : goal.invariant-loop-i

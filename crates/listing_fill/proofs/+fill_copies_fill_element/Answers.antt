@@ -49,7 +49,7 @@ pub fill_element-next_record-next-requires : goal.fill_element-next_record-next-
 fill_element-next_record-next-requires t c = search element_needs
 
 pub fill_element-fill_copies-requires : goal.fill_element-fill_copies-requires
-fill_element-fill_copies-requires t c = 
+fill_element-fill_copies-requires t c =
     let known = c.requires in (
       search rules,
       (

@@ -1,6 +1,6 @@
 use borrow.Author.Rules.{rules}
 use Prim.Native.Nat.{◌-◌}
-use Rattle.locate.proofs.Segments.{Passing, passing, into_segment, segment_site}
+use Rattle.locate.proofs.Segments.{passing, into_segment, segment_site}
 use Rattle.locate.proofs.find.Goals as goal
 
 pub loop-i-init : goal.loop-i-init

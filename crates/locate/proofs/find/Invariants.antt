@@ -1,6 +1,5 @@
-use borrow.Author.Rules.{rules}
 use Prim.Native.Nat.{◌-◌}
-use Rattle.locate.proofs.Segments.{Passing, passing, into_segment, segment_site}
+use Rattle.locate.proofs.Segments.{Passing}
 use Rattle.locate.proofs.find.Given as goal
 
 abbrev pub invariant-loop-i : goal.invariant-loop-i

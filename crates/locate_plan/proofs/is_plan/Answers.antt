@@ -1,4 +1,3 @@
-use borrow.Author.Rules.{rules}
 use Rattle.locate_plan.proofs.Tops.{planning}
 use Rattle.locate_plan.proofs.is_plan.Goals as goal
 

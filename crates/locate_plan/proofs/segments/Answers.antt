@@ -1,7 +1,5 @@
 use Prim.Native.Nat.{◌-◌}
-use Rattle.locate_plan.proofs.Tops.{CountedTo, counting, entering_top, top_fit}
-use Rattle.locate_rows.proofs.Numbers.{on}
-use borrow.Author.Rules.{rules}
+use Rattle.locate_plan.proofs.Tops.{counting, entering_top}
 use Rattle.locate_plan.proofs.segments.Goals as goal
 
 pub loop-i-init : goal.loop-i-init

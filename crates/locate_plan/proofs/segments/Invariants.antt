@@ -1,7 +1,5 @@
 use Prim.Native.Nat.{◌-◌}
-use Rattle.locate_plan.proofs.Tops.{CountedTo, counting, entering_top, top_fit}
-use Rattle.locate_rows.proofs.Numbers.{on}
-use borrow.Author.Rules.{rules}
+use Rattle.locate_plan.proofs.Tops.{CountedTo}
 use Rattle.locate_plan.proofs.segments.Given as goal
 
 abbrev pub invariant-loop-i : goal.invariant-loop-i

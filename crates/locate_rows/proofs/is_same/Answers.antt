@@ -1,6 +1,5 @@
-use Rattle.locate_rows.proofs.Comparing.{comparing, Alike, same_word, alike_next}
+use Rattle.locate_rows.proofs.Comparing.{comparing, same_word, alike_next}
 use Prim.Native.Nat.{◌-◌}
-use lib.ListN.{length}
 use Rattle.locate_rows.proofs.is_same.Goals as goal
 
 pub returns-then-a-b : goal.returns-then-a-b

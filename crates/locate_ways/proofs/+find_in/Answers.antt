@@ -19,9 +19,9 @@ next_record-next-requires t c = search stepping
 
 pub find_in-requires : goal.find_in-requires
 find_in-requires t c = (
-      search rules,
-      (search rules, search rules, search rules, chosen_site c.loop-i.invariant c.loop-i-test.true c.natural_at-count.ensures.0 c.if-left-count.true c.moved_by-start.ensures c.rise_at-kind.ensures.0 c.if-kind-eq-GROUP.true c.choose-copy.ensures c.next_record-next.ensures.0),
-    )
+  search rules,
+  (search rules, search rules, search rules, chosen_site c.loop-i.invariant c.loop-i-test.true c.natural_at-count.ensures.0 c.if-left-count.true c.moved_by-start.ensures c.rise_at-kind.ensures.0 c.if-kind-eq-GROUP.true c.choose-copy.ensures c.next_record-next.ensures.0),
+)
 
 pub returns-then-kind-eq-GROUP : goal.returns-then-kind-eq-GROUP
 returns-then-kind-eq-GROUP t c = search seeking
@@ -30,7 +30,7 @@ pub packed-requires : goal.packed-requires
 packed-requires t c = search stepping
 
 pub returns-then-left-count : goal.returns-then-left-count
-returns-then-left-count t c = 
+returns-then-left-count t c =
     variable_is c.loop-i.invariant c.loop-i-test.true c.natural_at-count.ensures.0 c.if-left-count.true c.moved_by-start.ensures c.rise_at-kind.ensures.0 c.if-kind-eq-GROUP.false (search rules) (search rules) c.packed.ensures
 
 pub moved_by-address-requires : goal.moved_by-address-requires

@@ -1,8 +1,5 @@
-use Rattle.maps.proofs.Matching.{listings, Listing}
+use Rattle.maps.proofs.Matching.{listings}
 use Prim.Native.Nat.{◌-◌}
-use lib.ListN.{length}
-use Rattle.cdi.specs.Access.{equals}
-use Rattle.maps.specs.Matches.{wanted_of}
 use Rattle.maps.proofs.is_listed.Goals as goal
 
 pub returns-in-Nothing : goal.returns-in-Nothing

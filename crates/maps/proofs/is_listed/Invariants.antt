@@ -1,4 +1,4 @@
-use Rattle.maps.proofs.Matching.{listings, Listing}
+use Rattle.maps.proofs.Matching.{Listing}
 use Prim.Native.Nat.{◌-◌}
 use lib.ListN.{length}
 use Rattle.cdi.specs.Access.{equals}

@@ -1,4 +1,3 @@
-use borrow.Author.Rules.{rules}
 use Rattle.maps.proofs.Matching.{relations}
 use Rattle.maps.proofs.is_match.Goals as goal
 

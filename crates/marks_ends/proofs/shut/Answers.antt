@@ -1,4 +1,4 @@
-use Rattle.marks_ends.proofs.Shutting.{Shutting, shut_loop}
+use Rattle.marks_ends.proofs.Shutting.{shut_loop}
 use Prim.Native.Nat.{◌-◌}
 use Rattle.marks_ends.proofs.shut.Goals as goal
 

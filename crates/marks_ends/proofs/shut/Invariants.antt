@@ -1,4 +1,4 @@
-use Rattle.marks_ends.proofs.Shutting.{Shutting, shut_loop}
+use Rattle.marks_ends.proofs.Shutting.{Shutting}
 use Prim.Native.Nat.{◌-◌}
 use Rattle.marks_ends.proofs.shut.Given as goal
 

@@ -1,4 +1,3 @@
-use borrow.Author.Rules.{rules}
 use Rattle.marks_runs.proofs.Running.{brackets}
 use Rattle.marks_runs.proofs.is_bracketed.Goals as goal
 

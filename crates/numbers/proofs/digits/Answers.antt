@@ -1,6 +1,5 @@
 use Prim.Native.Nat.{◌-◌}
-use lib.ListN.{length}
-use Rattle.numbers.proofs.Reading.{Read, digit_loop}
+use Rattle.numbers.proofs.Reading.{digit_loop}
 use Rattle.numbers.proofs.digits.Goals as goal
 
 pub loop-i-preserved : goal.loop-i-preserved

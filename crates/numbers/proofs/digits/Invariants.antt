@@ -1,6 +1,6 @@
 use Prim.Native.Nat.{◌-◌}
 use lib.ListN.{length}
-use Rattle.numbers.proofs.Reading.{Read, digit_loop}
+use Rattle.numbers.proofs.Reading.{Read}
 use Rattle.numbers.proofs.digits.Given as goal
 
 abbrev pub invariant-loop-i : goal.invariant-loop-i

@@ -1,4 +1,3 @@
-use borrow.Author.Rules.{rules}
 use Rattle.numbers.proofs.Reading.{both_ends}
 use Rattle.numbers.proofs.ended.Goals as goal
 

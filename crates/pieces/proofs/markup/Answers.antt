@@ -1,4 +1,3 @@
-use borrow.Author.Rules.{rules}
 use Rattle.pieces.proofs.Cutting.{markups}
 use Rattle.pieces.proofs.markup.Goals as goal
 

@@ -1,4 +1,3 @@
-use borrow.Author.Rules.{rules}
 use Rattle.pieces.proofs.Cutting.{any_piece}
 use Rattle.pieces.proofs.piece.Goals as goal
 

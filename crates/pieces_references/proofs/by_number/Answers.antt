@@ -1,4 +1,3 @@
-use borrow.Author.Rules.{rules}
 use Rattle.pieces_references.proofs.Referring.{by_numbers}
 use Rattle.pieces_references.proofs.by_number.Goals as goal
 

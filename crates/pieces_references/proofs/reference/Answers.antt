@@ -1,4 +1,3 @@
-use borrow.Author.Rules.{rules}
 use Rattle.pieces_references.proofs.Referring.{references}
 use Rattle.pieces_references.proofs.reference.Goals as goal
 

@@ -1,4 +1,3 @@
-use borrow.Author.Rules.{rules}
 use Rattle.pieces_marks.proofs.Reading.{end_tags}
 use Rattle.pieces_tags.proofs.end_tag.Goals as goal
 

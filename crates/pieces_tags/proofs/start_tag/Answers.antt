@@ -1,4 +1,3 @@
-use borrow.Author.Rules.{rules}
 use Rattle.pieces_tags.proofs.Tagging.{start_tags}
 use Rattle.pieces_tags.proofs.start_tag.Goals as goal
 

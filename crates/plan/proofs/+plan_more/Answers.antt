@@ -1,4 +1,3 @@
-use Rattle.std.proofs.Common.{rules}
 use Rattle.plan_table.proofs.Placing.{planning}
 use Rattle.plan.proofs.+plan_more.Goals as goal
 

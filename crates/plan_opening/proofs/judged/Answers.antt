@@ -1,4 +1,3 @@
-use borrow.Author.Rules.{rules}
 use Rattle.plan_opening.proofs.Opening.{judging}
 use Rattle.plan_opening.proofs.judged.Goals as goal
 

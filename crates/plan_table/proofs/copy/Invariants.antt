@@ -1,8 +1,6 @@
-use mir.Facts.{to_z-of_z}
-use borrow.Author.Rules.{rules}
 use Prim.Native.Nat.{◌-◌}
 use lib.ListN.{length}
-use Rattle.plan_table.proofs.Placing.{copying, copy_next, Copied}
+use Rattle.plan_table.proofs.Placing.{Copied}
 use Rattle.plan_table.proofs.copy.Given as goal
 
 abbrev pub invariant-loop-i : goal.invariant-loop-i

@@ -1,4 +1,3 @@
-use borrow.Author.Rules.{rules}
 use Rattle.settings.proofs.Rereading.{rereading}
 use Rattle.settings.proofs.content_at.Goals as goal
 

@@ -1,4 +1,3 @@
-use borrow.Author.Rules.{rules}
 use Rattle.settings_admission.proofs.Admitting.{map_there}
 use Rattle.settings_admission.proofs.has_map.Goals as goal
 

@@ -1,4 +1,3 @@
-use borrow.Author.Rules.{rules}
 use Rattle.settings_admission.proofs.Admitting.{admitting}
 use Rattle.settings_admission.proofs.is_admitted.Goals as goal
 

@@ -1,4 +1,3 @@
-use borrow.Author.Rules.{rules}
 use Rattle.settings_bounds.proofs.Bounding.{between}
 use Rattle.settings_bounds.proofs.is_in_bounds.Goals as goal
 

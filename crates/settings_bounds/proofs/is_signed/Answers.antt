@@ -1,4 +1,3 @@
-use borrow.Author.Rules.{rules}
 use Rattle.settings_bounds.proofs.Bounding.{signing}
 use Rattle.settings_bounds.proofs.is_signed.Goals as goal
 

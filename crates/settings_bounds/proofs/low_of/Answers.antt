@@ -1,4 +1,3 @@
-use borrow.Author.Rules.{rules}
 use Rattle.settings_bounds.proofs.Bounding.{bounding}
 use Rattle.settings_bounds.proofs.low_of.Goals as goal
 

@@ -1,4 +1,3 @@
-use borrow.Author.Rules.{rules}
 use Rattle.tags.proofs.Tagged.{tellings}
 use Rattle.tags.proofs.told.Goals as goal
 

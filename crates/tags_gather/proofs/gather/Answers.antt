@@ -1,6 +1,5 @@
-use Rattle.tags_gather.proofs.Gathering.{Going, one_step, gathering}
+use Rattle.tags_gather.proofs.Gathering.{one_step, gathering}
 use Prim.Native.Nat.{◌-◌}
-use lib.ListN.{length}
 use Rattle.tags_gather.proofs.gather.Goals as goal
 
 pub loop-i-init : goal.loop-i-init

@@ -1,4 +1,4 @@
-use Rattle.tags_gather.proofs.Gathering.{Going, one_step, gathering}
+use Rattle.tags_gather.proofs.Gathering.{Going}
 use Prim.Native.Nat.{◌-◌}
 use lib.ListN.{length}
 use Rattle.tags_gather.proofs.gather.Given as goal

@@ -1,4 +1,3 @@
-use borrow.Author.Rules.{rules}
 use Rattle.tags_values.proofs.Ranged.{in_range}
 use Rattle.tags_values.proofs.is_in_range.Goals as goal
 

@@ -1,4 +1,3 @@
-use borrow.Author.Rules.{rules}
 use Rattle.tags_values.proofs.Coded.{text_codes}
 use Rattle.tags_values.proofs.is_text.Goals as goal
 

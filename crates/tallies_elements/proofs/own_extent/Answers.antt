@@ -1,4 +1,3 @@
-use borrow.Author.Rules.{rules}
 use Rattle.tallies_elements.proofs.Elements.{owning}
 use Rattle.tallies_elements.proofs.own_extent.Goals as goal
 

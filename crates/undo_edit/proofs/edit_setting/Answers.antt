@@ -1,7 +1,4 @@
-use mathlib.Core.Path.{◌≡◌}
-use Rattle.undo_entries.specs.declared.Begun.TheVariants.{Nothing}
 use native.Mathlib.Omega.{arith}
-use borrow.Author.Rules.{rules}
 use Rattle.undo_edit.proofs.Editing.{editing, cause_told, cause_window, cause_journal, edit_high, edit_room, full_told, full_window, full_journal, in_room_law, few, stands_told, stands_window, stands_journal}
 use Rattle.undo_edit.proofs.edit_setting.Goals as goal
 
