@@ -1,6 +1,6 @@
 -- The fewest digits that hold a number are its decimal form.
 use mathlib.Core.Path.{◌≡◌, refl, sym, ap, subst, ◌∙◌}
-use mathlib.Core.List.{[], ◌∷◌, ◌++◌}
+use mathlib.Core.List.{[], ◌∷◌}
 use Prim.Native.Nat.{ℕ, zero, suc, ◌+◌, ◌-◌, ◌*◌, ◌/◌, ◌%◌, ◌^◌, ◌≤◌, ◌<◌}
 use native.Mathlib.Nat.{add-zero, pow-suc, le_of_eq, le_trans, lt_of_lt_of_le, mod-lt, mod-eq_of_lt}
 use native.Mathlib.Omega.{arith}

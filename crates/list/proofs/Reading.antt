@@ -1,7 +1,7 @@
 -- What was read lies in the slice.
 use mathlib.Core.Path.{◌≡◌, refl, sym, ap, ◌∙◌}
 use mathlib.Core.Bool.{true}
-use Prim.Native.Nat.{ℕ, ◌≤◌, ◌<◌}
+use Prim.Native.Nat.{ℕ, ◌≤◌}
 use borrow.Author.Rules.{rules}
 use borrow.Author.Tests.{le-leb, leb-true}
 use Rattle.list.specs.declared.input.Text.{Text}

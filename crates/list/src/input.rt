@@ -3,6 +3,8 @@
 ghost use Rattle.std.specs.Prelude.{◌≡◌, true, length};
 ghost use Rattle.list.specs.Sizes.{within};
 
+use std::io::{Read, Stdin};
+
 // How many bytes were read, or that a read failed.
 #[derive(Clone, Copy)]
 pub enum Text {
@@ -11,16 +13,15 @@ pub enum Text {
 }
 
 // Reads to the end of the input or of the slice, whichever comes first.
-pub fn read_text(text: &mut [u8]) -> Text
+pub fn read_text(input: Stdin, text: &mut [u8]) -> Text
     ensures { within (length text.old) result ≡ true }
 {
+    let mut from = input;
     let mut at = 0;
     while at < text.len() {
-        let got = libc::read(0, &mut text[at..]);
-        if got < 0 {
+        let Ok(n) = from.read(&mut text[at..]) else {
             return Text::Failed;
-        }
-        let n = io::count(got, &text[at..]);
+        };
         if n == 0 {
             return Text::Is(at);
         }

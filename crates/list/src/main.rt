@@ -12,6 +12,7 @@ use lines::{put_count, put_refusal};
 use list_lines::lines_from;
 use plan::plan;
 use plan_stages::Planned;
+use std::io::Stdin;
 use terms::{FIELDS, MOST_VARIABLES, TEXT_LIMIT};
 
 // Writes the lines of all variables of a plan.
@@ -70,10 +71,10 @@ fn tell(what: &[u8]) {
     io::write_all(2, what);
 }
 
-fn run(text: &mut [u8], table: &mut [i64], numbers: &mut [u64], out: &mut [u8])
+fn run(input: Stdin, text: &mut [u8], table: &mut [i64], numbers: &mut [u64], out: &mut [u8])
     requires { (64 ≤ length out.old) × (length numbers.old / 5 * 92 ≤ length out.old) }
 {
-    let Text::Is(size) = read_text(text) else {
+    let Text::Is(size) = read_text(input, text) else {
         tell(b"list: standard input can't be read\n");
         return;
     };
@@ -82,10 +83,10 @@ fn run(text: &mut [u8], table: &mut [i64], numbers: &mut [u64], out: &mut [u8])
     }
 }
 
-fn main() {
+fn main(rt: HostRuntime) {
     let mut text = [0u8; TEXT_LIMIT];
     let mut table = [0i64; 8192];
     let mut numbers = [0u64; 5120];
     let mut out = [0u8; 94208];
-    run(&mut text, &mut table, &mut numbers, &mut out);
+    run(rt.stdin(), &mut text, &mut table, &mut numbers, &mut out);
 }

@@ -109,7 +109,7 @@ module _ (s : List ℕ) (left at b : ℕ) (st : State) (t : List ℤ) {n : ℕ} 
               pub long_ended : j ≡ 0 → state_of inner ≡ enter_of (state_of st) at (part s (at + 1) n) (attributes n 0 (drop n s))
                   → {p' b' : ℕ} {last : State} {t' : List ℤ} → p' ≡ g → b' ≡ in'.begun → last ≡ in'.state → t' ≡ t₁ → Ended s left at b st t n p' b' last t'
               long_ended d i ep eb el et = rw (ep, eb, el, et) (record {
-                fits = c.ranges h;
+                fits = c.fits h;
                 long = (c.done h).long;
                 reads = λ st' {t'} a fit fa w long. read_here s left at b (state_of st) t t' g in'.begun st'
                     (long_element s left at b (state_of st) t (start_tag s at p v z r y) refl f q k one_left (c.done h) (own_tag o d) refl (own_name o d) i a w (omega (arith, counted st', counted in'.state)) long)

@@ -1,5 +1,5 @@
-// The library as C and other languages link it. Every call has a C name, takes slices as a pointer and a length, and returns 0 or the number of the
-// refusal; but for those whose names end in `_checked` none asks anything of its caller.
+// The library's calls. Every call has the name under which C links it (`planksling_c`), and returns 0 or the number of the refusal; but for those
+// whose names end in `_checked` none asks anything of its caller.
 #![tactic(auto)]
 
 pub mod locating; // variables of a table alone

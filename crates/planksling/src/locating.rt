@@ -11,8 +11,7 @@ use locate::{find, locate};
 use planksling_out::{tell_listed, tell_located};
 
 // Variable n of any table; or 20, 21.
-#[unsafe(no_mangle)]
-pub extern "C" fn planksling_locate(
+pub fn planksling_locate(
     table: &[i64],
     n: u64,
     record_number: &mut usize,
@@ -32,13 +31,7 @@ pub extern "C" fn planksling_locate(
 }
 
 // The variables n, n + 1, .. of any table, five numbers each, as many as there is room for or remain; or 20.
-#[unsafe(no_mangle)]
-pub extern "C" fn planksling_list(
-    table: &[i64],
-    n: u64,
-    out: &mut [u64],
-    count: &mut usize,
-) -> usize
+pub fn planksling_list(table: &[i64], n: u64, out: &mut [u64], count: &mut usize) -> usize
     ensures value { result ≡ number_in (listing table.now n out.old) }
     ensures count_after { count.new ≡ value_after (λ a. a) (listing table.now n out.old) count.old }
     ensures out_after { out.new ≡ out_after table.now n out.old }
@@ -47,8 +40,7 @@ pub extern "C" fn planksling_list(
 }
 
 // Variable n of a table that is a plan; or 21.
-#[unsafe(no_mangle)]
-pub extern "C" fn planksling_locate_checked(
+pub fn planksling_locate_checked(
     table: &[i64],
     n: u64,
     record_number: &mut usize,
@@ -69,8 +61,7 @@ pub extern "C" fn planksling_locate_checked(
 }
 
 // The variables n, n + 1, .. of a table that is a plan. Returns how many: it can't be refused.
-#[unsafe(no_mangle)]
-pub extern "C" fn planksling_list_checked(table: &[i64], n: u64, out: &mut [u64]) -> usize
+pub fn planksling_list_checked(table: &[i64], n: u64, out: &mut [u64]) -> usize
     requires { is_plan table.now ≡ true }
     ensures value { result ≡ length (batch (walk (segments_of table.now)) n out.old) }
     ensures out_after { out.new ≡ listed (walk (segments_of table.now)) n out.old }

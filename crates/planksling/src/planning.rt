@@ -12,8 +12,7 @@ use plan::plan;
 use planksling_out::{tell_checked, tell_planned};
 
 // Plans a text into the table. Refusals: 1 to 7, 81 to 88, 9 to 13.
-#[unsafe(no_mangle)]
-pub extern "C" fn planksling_plan(
+pub fn planksling_plan(
     text: &[u8],
     table: &mut [i64],
     records: &mut usize,
@@ -30,8 +29,7 @@ pub extern "C" fn planksling_plan(
 }
 
 // Is the table a plan? 0, or 20.
-#[unsafe(no_mangle)]
-pub extern "C" fn planksling_check_plan(table: &[i64]) -> usize
+pub fn planksling_check_plan(table: &[i64]) -> usize
     ensures { result ≡ number_in (tested table.now) }
 {
     if is_plan(table) {
@@ -41,13 +39,7 @@ pub extern "C" fn planksling_check_plan(table: &[i64]) -> usize
 }
 
 // Is the table exactly the one planned from the text? The end of the text's content; or 1 to 7, 81 to 88, 9 to 12, 20.
-#[unsafe(no_mangle)]
-pub extern "C" fn planksling_check(
-    text: &[u8],
-    table: &[i64],
-    end: &mut usize,
-    place: &mut usize,
-) -> usize
+pub fn planksling_check(text: &[u8], table: &[i64], end: &mut usize, place: &mut usize) -> usize
     ensures value { result ≡ number_in (known_of text.now table.now) }
     ensures end_after { end.new ≡ value_after (λ a. a) (known_of text.now table.now) end.old }
     ensures place_after { place.new ≡ place_after (known_of text.now table.now) place.old }

@@ -11,8 +11,7 @@ use access::{read, read_known};
 use planksling_out::tell_read;
 
 // Reads variable n; or 1 to 7, 81 to 88, 9 to 12, 20, 21, 26 to 28.
-#[unsafe(no_mangle)]
-pub extern "C" fn planksling_read(
+pub fn planksling_read(
     text: &[u8],
     table: &[i64],
     n: u64,
@@ -41,8 +40,7 @@ pub extern "C" fn planksling_read(
 }
 
 // Reads variable n of a text and a table that have been checked; the place of every refusal is 0.
-#[unsafe(no_mangle)]
-pub extern "C" fn planksling_read_checked(
+pub fn planksling_read_checked(
     text: &[u8],
     end: usize,
     table: &[i64],

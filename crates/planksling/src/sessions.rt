@@ -19,8 +19,7 @@ use undo_take::undo_known;
 // ── of any text and any table ──
 
 // Edits with an integer: a sign, where any number but 0 says that it is negative, and a magnitude.
-#[unsafe(no_mangle)]
-pub extern "C" fn planksling_edit_integer(
+pub fn planksling_edit_integer(
     text: &[u8],
     table: &[i64],
     n: u64,
@@ -47,8 +46,7 @@ pub extern "C" fn planksling_edit_integer(
 }
 
 // Edits with an event ID.
-#[unsafe(no_mangle)]
-pub extern "C" fn planksling_edit_event(
+pub fn planksling_edit_event(
     text: &[u8],
     table: &[i64],
     n: u64,
@@ -71,8 +69,7 @@ pub extern "C" fn planksling_edit_event(
 }
 
 // Edits with a text.
-#[unsafe(no_mangle)]
-pub extern "C" fn planksling_edit_text(
+pub fn planksling_edit_text(
     text: &[u8],
     table: &[i64],
     n: u64,
@@ -97,8 +94,7 @@ pub extern "C" fn planksling_edit_text(
 }
 
 // Takes the latest edit back.
-#[unsafe(no_mangle)]
-pub extern "C" fn planksling_undo(
+pub fn planksling_undo(
     text: &[u8],
     table: &[i64],
     space: u64,
@@ -120,8 +116,7 @@ pub extern "C" fn planksling_undo(
 // ── of a text and a table that have been checked; the place of every refusal is 0 ──
 
 // Edits with an integer.
-#[unsafe(no_mangle)]
-pub extern "C" fn planksling_edit_integer_checked(
+pub fn planksling_edit_integer_checked(
     text: &[u8],
     end: usize,
     table: &[i64],
@@ -152,8 +147,7 @@ pub extern "C" fn planksling_edit_integer_checked(
 }
 
 // Edits with an event ID.
-#[unsafe(no_mangle)]
-pub extern "C" fn planksling_edit_event_checked(
+pub fn planksling_edit_event_checked(
     text: &[u8],
     end: usize,
     table: &[i64],
@@ -189,8 +183,7 @@ pub extern "C" fn planksling_edit_event_checked(
 }
 
 // Edits with a text.
-#[unsafe(no_mangle)]
-pub extern "C" fn planksling_edit_text_checked(
+pub fn planksling_edit_text_checked(
     text: &[u8],
     end: usize,
     table: &[i64],
@@ -226,8 +219,7 @@ pub extern "C" fn planksling_edit_text_checked(
 }
 
 // Takes the latest edit back.
-#[unsafe(no_mangle)]
-pub extern "C" fn planksling_undo_checked(
+pub fn planksling_undo_checked(
     text: &[u8],
     end: usize,
     table: &[i64],

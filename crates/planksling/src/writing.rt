@@ -16,8 +16,7 @@ use planksling_out::tell_written;
 // ── of any text and any table ──
 
 // Writes an integer: a sign, where any number but 0 says that it is negative, and a magnitude.
-#[unsafe(no_mangle)]
-pub extern "C" fn planksling_write_integer(
+pub fn planksling_write_integer(
     text: &[u8],
     table: &[i64],
     n: u64,
@@ -40,8 +39,7 @@ pub extern "C" fn planksling_write_integer(
 }
 
 // Writes an event ID.
-#[unsafe(no_mangle)]
-pub extern "C" fn planksling_write_event(
+pub fn planksling_write_event(
     text: &[u8],
     table: &[i64],
     n: u64,
@@ -59,8 +57,7 @@ pub extern "C" fn planksling_write_event(
 }
 
 // Writes a text.
-#[unsafe(no_mangle)]
-pub extern "C" fn planksling_write_text(
+pub fn planksling_write_text(
     text: &[u8],
     table: &[i64],
     n: u64,
@@ -83,8 +80,7 @@ pub extern "C" fn planksling_write_text(
 // ── of a text and a table that have been checked; the place of every refusal is 0 ──
 
 // Writes an integer.
-#[unsafe(no_mangle)]
-pub extern "C" fn planksling_write_integer_checked(
+pub fn planksling_write_integer_checked(
     text: &[u8],
     end: usize,
     table: &[i64],
@@ -111,8 +107,7 @@ pub extern "C" fn planksling_write_integer_checked(
 }
 
 // Writes an event ID.
-#[unsafe(no_mangle)]
-pub extern "C" fn planksling_write_event_checked(
+pub fn planksling_write_event_checked(
     text: &[u8],
     end: usize,
     table: &[i64],
@@ -135,8 +130,7 @@ pub extern "C" fn planksling_write_event_checked(
 }
 
 // Writes a text.
-#[unsafe(no_mangle)]
-pub extern "C" fn planksling_write_text_checked(
+pub fn planksling_write_text_checked(
     text: &[u8],
     end: usize,
     table: &[i64],

@@ -43,10 +43,10 @@ module _ {k : ℕ} {in_int : Bool} (judged : eqb k 24 ≡ false) (listed : (in_i
   -- In an element that holds a number the judge hears the content.
   said_after : {j : Judge} (t : Nodes) → Reads k in_int j → (judge_nodes j t).said ≡ heard j.said t
   unfolding judge_nodes heard
-  said_after end r = refl
-  said_after (other p c following) r = said_after following (reads_other p c r) ∙ rw (other_said p c r)
-  said_after {j} (element p n s kids following) r =
-      said_after following (reads_leave p n s (judge_nodes (enter_of j p n s) kids) r) ∙ rw (leave_said j p n s (judge_nodes (enter_of j p n s) kids))
+  said_after {j = j} end r = refl
+  said_after {j = j} (other p c following) r = said_after {j = other_of j p c} following (reads_other p c r) ∙ rw (other_said p c r)
+  said_after {j = j} (element p n s kids following) r =
+      said_after {j = leave_of j p n s (judge_nodes (enter_of j p n s) kids)} following (reads_leave p n s (judge_nodes (enter_of j p n s) kids) r) ∙ rw (leave_said j p n s (judge_nodes (enter_of j p n s) kids))
 
 -- The judge that enters an element which holds a number in an int hears its content.
 pub fresh_said : (l : Least) {n : List ℕ} → Numbered n → among n number_names ≡ true → (kids : Nodes) → (judge_nodes (fresh l (element_number n) true) kids).said ≡ heard Silent kids

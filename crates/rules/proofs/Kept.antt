@@ -166,13 +166,13 @@ unmoved j p c = cond_holds (Unmoved j) (is_foreign j) (record { low = refl; high
 pub after : {j : Judge} {b : Before} (t : Nodes) → Reads int true j → Like j.last b → After j b t (judge_nodes j t)
 unfolding judge_nodes bound_from R.sound is_sound inner
 after {j} end r l = record { low = refl; high = refl; sound = and_all j.sound }
-after {j} (other p c following) r l =
-    let h = after following (reads_other p c r) (like_other j p c l) in
+after {j} {b} (other p c following) r l =
+    let h = after {j = other_of j p c} {b = b} following (reads_other p c r) (like_other j p c l) in
     let u = unmoved j p c in
     record { low = h.low ∙ rw u.low; high = h.high ∙ rw u.high; sound = h.sound ∙ rw u.sound }
 after {j} {b} (element p n s kids following) r l =
     let i = judge_nodes (enter_of j p n s) kids in
-    let h = after following (reads_leave p n s i r) (like_leave int_judged r p n s i l) in
+    let h = after {j = leave_of j p n s i} {b = behind (row_at int) b n} following (reads_leave p n s i r) (like_leave int_judged r p n s i l) in
     let u = left r p n s kids l (entry_of (row_at int) n) refl in
     let first : List ℕ → Bool = λ w. is_sound w b p n s kids in
     let others : List ℕ → Bool = λ w. R.sound (row_at int) w (behind (row_at int) b n) following in

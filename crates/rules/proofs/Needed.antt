@@ -83,12 +83,12 @@ has_after : {in_int : Bool} {j : Judge} (t : Nodes) → Reads (element_number re
 unfolding judge_nodes has_child
 has_after {j = j} end r = record { one = or_none j.one; two = or_none j.two }
 has_after {j = j} (other p c following) r =
-    let h = has_after following (reads_other p c r) in
+    let h = has_after {j = other_of j p c} following (reads_other p c r) in
     let o = other_has j p c in
     record { one = h.one ∙ rw o.0; two = h.two ∙ rw o.1 }
 has_after {j = j} (element p n s kids following) r =
     let i = judge_nodes (enter_of j p n s) kids in
-    let h = has_after following (reads_leave p n s i r) in
+    let h = has_after {j = leave_of j p n s i} following (reads_leave p n s i r) in
     let l = leave_has r p n s i in
     record {
       one = h.one ∙ rw l.one (or_assoc j.one (among n property) (has_child property following));

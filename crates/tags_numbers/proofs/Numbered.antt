@@ -123,20 +123,22 @@ unfolding natural
 none_rises zero = omega arith
 none_rises (suc n) = omega arith
 
+at_least : (n : ℕ) → natural (neg_ℤ (neg_ℤ (pos n))) ≤ 2 ^ 31 → n ≤ 2147483648
+unfolding natural
+at_least zero h = omega arith
+at_least (suc n) h = omega (arith, h)
+
+at_most : (n : ℕ) → natural (pos n) ≤ 2 ^ 31 - 1 → n ≤ 2147483647
+unfolding natural
+at_most n h = omega (arith, h)
+
 -- an offset in its range, by its code and its amount
 small_offset : (c n : ℕ) (z : ℤ) → offset_by c n ≡ z → natural z ≤ 2 ^ 31 - 1 → natural (neg_ℤ z) ≤ 2 ^ 31 → (n ≤ 2147483648) × ((c ≡ 2 → ⊥) → n ≤ 2147483647)
 unfolding offset_by
 small_offset c n z e r f = ⊎_elim
-    (λ (x : c ≡ 2). let q : neg_ℤ (pos n) ≡ z = sym (rw (eq-eqb c 2 x)) ∙ e in (below n (rw (sym q) at f), λ y. absurd (y x)))
-    (λ (x : c ≡ 2 → ⊥). let q : pos n ≡ z = sym (rw (ne_eqb c 2 x)) ∙ e in (omega (arith, above n (rw (sym q) at r)), λ y. above n (rw (sym q) at r)))
+    (λ (x : c ≡ 2). let q : neg_ℤ (pos n) ≡ z = sym (rw (eq-eqb c 2 x)) ∙ e in (at_least n (rw (sym q) at f), λ y. absurd (y x)))
+    (λ (x : c ≡ 2 → ⊥). let q : pos n ≡ z = sym (rw (ne_eqb c 2 x)) ∙ e in (omega (arith, at_most n (rw (sym q) at r)), λ y. at_most n (rw (sym q) at r)))
     (eq_or_ne c 2)
-  where
-    below : (n : ℕ) → natural (neg_ℤ (neg_ℤ (pos n))) ≤ 2 ^ 31 → n ≤ 2147483648
-    below zero h = omega arith
-    below (suc n) h = unfold natural in omega (arith, h)
-
-    above : (n : ℕ) → natural (pos n) ≤ 2 ^ 31 - 1 → n ≤ 2147483647
-    above n h = unfold natural in omega (arith, h)
 
 module _ {codes amounts : List ℕ} (s : List Attribute) (h : Celled codes amounts s) where
   cell : (a : ℕ) {n : ℕ} → 1 ≤ a → a ≤ 10 → amount_in a s ≡ n → get_or amounts a 0 ≡ n

@@ -3,10 +3,10 @@ use Prim.Native.Nat.{◌-◌}
 use Rattle.backups_judge.proofs.first_bad.Statement.{statement}
 use Rattle.backups_judge.proofs.first_bad.Tie as tie
 
-abbrev invariant-loop : tie.invariant-loop
+abbrev invariant-loop : tie.invariant-loop-k
 invariant-loop b blocks space k₀ k = Passing b blocks space k
 
-abbrev decreases-loop : tie.decreases-loop
+abbrev decreases-loop : tie.decreases-loop-k
 decreases-loop b blocks space k₀ k = blocks - k
 
 pub first_bad_spec : {M : Type 1} → statement M

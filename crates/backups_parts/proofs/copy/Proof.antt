@@ -4,10 +4,10 @@ use lib.ListN.{length}
 use Rattle.backups_parts.proofs.copy.Statement.{statement}
 use Rattle.backups_parts.proofs.copy.Tie as tie
 
-abbrev invariant-loop : tie.invariant-loop
+abbrev invariant-loop : tie.invariant-loop-i
 invariant-loop part₀ bytes i₀ part i = Copied bytes part i
 
-abbrev decreases-loop : tie.decreases-loop
+abbrev decreases-loop : tie.decreases-loop-i
 decreases-loop part₀ bytes i₀ part i = length bytes - i
 
 pub copy_spec : {M : Type 1} → statement M

@@ -1,5 +1,4 @@
-use Rattle.extent.proofs.Signed.{turn_fits, turn_casts, turn_more, falls, falls_not}
-use Rattle.extent.proofs.fall.Reads as reads
+use Rattle.extent.proofs.Signed.{falls, falls_not}
 use Rattle.extent.proofs.fall.Goals as goal
 
 pub returns-then-z-lt0 : goal.returns-then-z-lt0

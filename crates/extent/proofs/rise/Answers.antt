@@ -1,5 +1,4 @@
-use Rattle.extent.proofs.Signed.{rises_not, casts, rises}
-use Rattle.extent.proofs.rise.Reads as reads
+use Rattle.extent.proofs.Signed.{rises_not, rises}
 use Rattle.extent.proofs.rise.Goals as goal
 
 pub returns-then-z-lt0 : goal.returns-then-z-lt0

@@ -1,4 +1,3 @@
-use borrow.Author.Rules.{rules}
 use Rattle.formatting.proofs.Formats.{tails}
 use Rattle.formatting.proofs.is_tail.Goals as goal
 

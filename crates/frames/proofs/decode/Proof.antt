@@ -5,10 +5,10 @@ use borrow.Author.Rules.{rules}
 use Rattle.frames.proofs.decode.Statement.{statement}
 use Rattle.frames.proofs.decode.Tie as tie
 
-abbrev invariant-loop : tie.invariant-loop
+abbrev invariant-loop : tie.invariant-loop-i
 invariant-loop block part₀ i₀ part i = length part ≡ length part₀
 
-abbrev decreases-loop : tie.decreases-loop
+abbrev decreases-loop : tie.decreases-loop-i
 decreases-loop block part₀ i₀ part i = length part₀ - i
 
 pub decode_spec : {M : Type 1} → statement M

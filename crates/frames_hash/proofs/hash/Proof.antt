@@ -3,10 +3,10 @@ use Rattle.std.proofs.Common.{◌-◌, length}
 use Rattle.frames_hash.proofs.hash.Statement.{statement}
 use Rattle.frames_hash.proofs.hash.Tie as tie
 
-abbrev invariant-loop : tie.invariant-loop
+abbrev invariant-loop : tie.invariant-loop-i
 invariant-loop table sum₀ i₀ sum i = Told table sum i
 
-abbrev decreases-loop : tie.decreases-loop
+abbrev decreases-loop : tie.decreases-loop-i
 decreases-loop table sum₀ i₀ sum i = length table - i
 
 pub hash_spec : {M : Type 1} → statement M

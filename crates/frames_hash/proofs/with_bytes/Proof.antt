@@ -3,10 +3,10 @@ use Rattle.std.proofs.Common.{◌-◌, length}
 use Rattle.frames_hash.proofs.with_bytes.Statement.{statement}
 use Rattle.frames_hash.proofs.with_bytes.Tie as tie
 
-abbrev invariant-loop : tie.invariant-loop
+abbrev invariant-loop : tie.invariant-loop-i
 invariant-loop h bytes sum₀ i₀ sum i = Summed h bytes sum i
 
-abbrev decreases-loop : tie.decreases-loop
+abbrev decreases-loop : tie.decreases-loop-i
 decreases-loop h bytes sum₀ i₀ sum i = length bytes - i
 
 pub with_bytes_spec : {M : Type 1} → statement M

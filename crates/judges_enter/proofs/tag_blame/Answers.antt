@@ -1,4 +1,3 @@
-use borrow.Author.Rules.{rules}
 use Rattle.judges_enter.proofs.Entering.{tag_faults_law}
 use Rattle.judges_enter.proofs.tag_blame.Goals as goal
 

@@ -1,4 +1,3 @@
-use borrow.Author.Rules.{rules}
 use Rattle.rules_judge.proofs.Tabled.{turns}
 use Rattle.judges_tables.proofs.is_in_turn.Goals as goal
 

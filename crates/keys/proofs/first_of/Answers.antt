@@ -1,5 +1,4 @@
 use Rattle.keys.proofs.Keying.{replaced, stays}
-use Rattle.keys.proofs.first_of.Reads as reads
 use Rattle.keys.proofs.first_of.Goals as goal
 
 pub returns-then-key-least : goal.returns-then-key-least

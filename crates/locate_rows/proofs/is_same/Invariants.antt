@@ -1,4 +1,4 @@
-use Rattle.locate_rows.proofs.Comparing.{comparing, Alike, same_word, alike_next}
+use Rattle.locate_rows.proofs.Comparing.{Alike}
 use Prim.Native.Nat.{◌-◌}
 use lib.ListN.{length}
 use Rattle.locate_rows.proofs.is_same.Given as goal

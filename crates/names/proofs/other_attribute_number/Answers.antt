@@ -1,4 +1,3 @@
-use borrow.Author.Rules.{rules}
 use Rattle.names.specs.Names.{attribute_names, number_in}
 use Rattle.names.proofs.Positions.{chain}
 use Rattle.names.proofs.other_attribute_number.Goals as goal

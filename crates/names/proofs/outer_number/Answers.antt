@@ -1,4 +1,3 @@
-use borrow.Author.Rules.{rules}
 use Rattle.names.specs.Names.{element_names, number_in}
 use Rattle.names.proofs.Positions.{chain}
 use Rattle.names.proofs.outer_number.Goals as goal

@@ -1,4 +1,3 @@
-use borrow.Author.Rules.{rules}
 use Rattle.names.specs.Names.{names_page}
 use Rattle.naming_words.specs.Whole.{whole_page}
 use Rattle.naming_words.proofs.Known.{words}

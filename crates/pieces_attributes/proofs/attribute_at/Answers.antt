@@ -1,4 +1,3 @@
-use borrow.Author.Rules.{rules}
 use Rattle.pieces_attributes.proofs.Attributing.{an_attribute}
 use Rattle.pieces_attributes.proofs.attribute_at.Goals as goal
 

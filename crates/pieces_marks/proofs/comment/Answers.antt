@@ -1,4 +1,3 @@
-use borrow.Author.Rules.{rules}
 use Rattle.pieces_marks.proofs.Reading.{comments}
 use Rattle.pieces_marks.proofs.comment.Goals as goal
 

@@ -1,4 +1,3 @@
-use borrow.Author.Rules.{rules}
 use Rattle.pieces_marks.proofs.Reading.{instructions}
 use Rattle.pieces_marks.proofs.instruction.Goals as goal
 

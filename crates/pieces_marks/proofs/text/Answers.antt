@@ -1,4 +1,3 @@
-use borrow.Author.Rules.{rules}
 use Rattle.pieces_marks.proofs.Reading.{runs}
 use Rattle.pieces_marks.proofs.text.Goals as goal
 

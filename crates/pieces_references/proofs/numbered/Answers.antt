@@ -1,4 +1,3 @@
-use borrow.Author.Rules.{rules}
 use Rattle.pieces_references.proofs.Referring.{numbers}
 use Rattle.pieces_references.proofs.numbered.Goals as goal
 

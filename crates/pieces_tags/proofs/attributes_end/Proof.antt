@@ -4,10 +4,10 @@ use Rattle.pieces_attributes.proofs.Walking.{Closing, close_loop}
 use Rattle.pieces_tags.proofs.attributes_end.Statement.{statement}
 use Rattle.pieces_tags.proofs.attributes_end.Tie as tie
 
-abbrev invariant-loop : tie.invariant-loop
+abbrev invariant-loop : tie.invariant-loop-i
 invariant-loop s at i₀ i = Closing s at i
 
-abbrev decreases-loop : tie.decreases-loop
+abbrev decreases-loop : tie.decreases-loop-i
 decreases-loop s at i₀ i = length s - i
 
 pub attributes_end_spec : {M : Type 1} → statement M

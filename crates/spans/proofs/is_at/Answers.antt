@@ -1,4 +1,3 @@
-use borrow.Author.Rules.{rules}
 use Rattle.spans.proofs.Standing.{standing}
 use Rattle.spans.proofs.is_at.Goals as goal
 

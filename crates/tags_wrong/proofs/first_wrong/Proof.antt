@@ -4,10 +4,10 @@ use lib.ListN.{length}
 use Rattle.tags_wrong.proofs.first_wrong.Statement.{statement}
 use Rattle.tags_wrong.proofs.first_wrong.Tie as tie
 
-abbrev invariant-loop : tie.invariant-loop
+abbrev invariant-loop : tie.invariant-loop-i
 invariant-loop s at element codes set i₀ i = Seeking s at element set codes i
 
-abbrev decreases-loop : tie.decreases-loop
+abbrev decreases-loop : tie.decreases-loop-i
 decreases-loop s at element codes set i₀ i = length s - i
 
 pub first_wrong_spec : {M : Type 1} → statement M

@@ -1,5 +1,5 @@
 use borrow.Author.Rules.{rules}
-use Rattle.tallies_records.proofs.Rows.{put_read, no_room}
+use Rattle.tallies_records.proofs.Rows.{no_room}
 use Rattle.tallies_records.proofs.write_record.Goals as goal
 
 pub returns-else-at-rows-clause-rows_after : goal.returns-else-at-rows-clause-rows_after

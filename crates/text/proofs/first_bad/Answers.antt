@@ -1,8 +1,6 @@
-use Rattle.text.proofs.Checks.{Sound, character_loop, out, run_on}
+use Rattle.text.proofs.Checks.{character_loop, out, run_on}
 use native.Mathlib.Omega.{arith}
-use Rattle.text.specs.Answers.{of_set}
 use Prim.Native.Nat.{◌-◌}
-use lib.ListN.{length}
 use Rattle.text.proofs.first_bad.Goals as goal
 
 pub loop-i-init : goal.loop-i-init

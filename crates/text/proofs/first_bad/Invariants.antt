@@ -1,4 +1,4 @@
-use Rattle.text.proofs.Checks.{Sound, character_loop}
+use Rattle.text.proofs.Checks.{Sound}
 use Rattle.text.specs.Answers.{of_set}
 use Prim.Native.Nat.{◌-◌}
 use lib.ListN.{length}

@@ -1,5 +1,4 @@
 use Rattle.cdi.specs.Text.{mark}
-use borrow.Author.Rules.{rules}
 use Rattle.text.proofs.Checks.{mark_test}
 use Rattle.text.proofs.is_marked.Goals as goal
 

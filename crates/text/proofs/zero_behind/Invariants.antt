@@ -1,4 +1,4 @@
-use Rattle.text.proofs.Ends.{Seen, zero_loop}
+use Rattle.text.proofs.Ends.{Seen}
 use Prim.Native.Nat.{◌-◌, ◌≤◌}
 use lib.ListN.{length}
 use Rattle.text.proofs.zero_behind.Given as goal

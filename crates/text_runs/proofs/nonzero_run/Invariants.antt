@@ -1,4 +1,4 @@
-use Rattle.text_runs.proofs.Running.{Inside, run_loop}
+use Rattle.text_runs.proofs.Running.{Inside}
 use Rattle.text_runs.specs.Runs.{nonzero, AllOf}
 use Prim.Native.Nat.{◌+◌, ◌-◌, ◌≤◌}
 use lib.ListN.{length}

@@ -1,0 +1,12 @@
+use Rattle.maps.proofs.Matching.{Listing}
+use Prim.Native.Nat.{◌-◌}
+use lib.ListN.{length}
+use Rattle.cdi.specs.Access.{equals}
+use Rattle.maps.specs.Matches.{wanted_of}
+use Rattle.maps.proofs.is_listed.Given as goal
+
+abbrev pub invariant-loop-place : goal.invariant-loop-place
+invariant-loop-place l = Listing l.s l.at (equals (wanted_of l.wanted l.text)) l.i
+
+abbrev pub decreases-loop-place : goal.decreases-loop-place
+decreases-loop-place l = length l.s - l.i

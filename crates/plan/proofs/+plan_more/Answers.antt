@@ -1,0 +1,14 @@
+use Rattle.plan_table.proofs.Placing.{planning}
+use Rattle.plan.proofs.+plan_more.Goals as goal
+
+pub returns-then-has_room-clause-answer : goal.returns-then-has_room-clause-answer
+returns-then-has_room-clause-answer t c = search planning
+
+pub returns-then-has_room-clause-after : goal.returns-then-has_room-clause-after
+returns-then-has_room-clause-after t c = search planning
+
+pub returns-in-Refused-clause-answer : goal.returns-in-Refused-clause-answer
+returns-in-Refused-clause-answer t c = search planning
+
+pub returns-in-Refused-clause-after : goal.returns-in-Refused-clause-after
+returns-in-Refused-clause-after t c = search planning

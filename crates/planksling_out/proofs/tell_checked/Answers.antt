@@ -1,0 +1,29 @@
+use borrow.Author.Rules.{rules}
+use Rattle.access_checked.specs.Told.{checked_of}
+use Rattle.outcomes.specs.Outcomes.{number_in, place_after, value_after}
+use Rattle.outcomes.proofs.Telling.{number_by_law, place_by, value_by}
+use Rattle.planksling_out.proofs.tell_checked.Goals as goal
+
+pub returns-in-Exact-clause-value : goal.returns-in-Exact-clause-value
+unfolding number_in place_after value_after checked_of
+returns-in-Exact-clause-value c = search (number_by_law checked_of, rules)
+
+pub returns-in-Exact-clause-end_after : goal.returns-in-Exact-clause-end_after
+unfolding number_in place_after value_after checked_of
+returns-in-Exact-clause-end_after c = search (value_by checked_of, rules)
+
+pub returns-in-Exact-clause-place_after : goal.returns-in-Exact-clause-place_after
+unfolding number_in place_after value_after checked_of
+returns-in-Exact-clause-place_after c = search (place_by checked_of, rules)
+
+pub returns-in-Refused-clause-value : goal.returns-in-Refused-clause-value
+unfolding number_in place_after value_after checked_of
+returns-in-Refused-clause-value c = search (number_by_law checked_of, rules)
+
+pub returns-in-Refused-clause-end_after : goal.returns-in-Refused-clause-end_after
+unfolding number_in place_after value_after checked_of
+returns-in-Refused-clause-end_after c = search (value_by checked_of, rules)
+
+pub returns-in-Refused-clause-place_after : goal.returns-in-Refused-clause-place_after
+unfolding number_in place_after value_after checked_of
+returns-in-Refused-clause-place_after c = search (place_by checked_of, rules)

@@ -1,0 +1,37 @@
+use borrow.Author.Rules.{rules}
+use Rattle.plan_stages.specs.Outlines.{answer_of}
+use Rattle.outcomes.specs.Outcomes.{number_in, place_after, value_after}
+use Rattle.outcomes.proofs.Telling.{number_by_law, place_by, value_by}
+use Rattle.planksling_out.proofs.tell_planned.Goals as goal
+
+pub returns-in-Accepted-clause-value : goal.returns-in-Accepted-clause-value
+unfolding number_in place_after value_after answer_of
+returns-in-Accepted-clause-value c = search (number_by_law answer_of, rules)
+
+pub returns-in-Accepted-clause-records_after : goal.returns-in-Accepted-clause-records_after
+unfolding number_in place_after value_after answer_of
+returns-in-Accepted-clause-records_after c = search (value_by answer_of, rules)
+
+pub returns-in-Accepted-clause-variables_after : goal.returns-in-Accepted-clause-variables_after
+unfolding number_in place_after value_after answer_of
+returns-in-Accepted-clause-variables_after c = search (value_by answer_of, rules)
+
+pub returns-in-Accepted-clause-place_after : goal.returns-in-Accepted-clause-place_after
+unfolding number_in place_after value_after answer_of
+returns-in-Accepted-clause-place_after c = search (place_by answer_of, rules)
+
+pub returns-in-Refused-clause-value : goal.returns-in-Refused-clause-value
+unfolding number_in place_after value_after answer_of
+returns-in-Refused-clause-value c = search (number_by_law answer_of, rules)
+
+pub returns-in-Refused-clause-records_after : goal.returns-in-Refused-clause-records_after
+unfolding number_in place_after value_after answer_of
+returns-in-Refused-clause-records_after c = search (value_by answer_of, rules)
+
+pub returns-in-Refused-clause-variables_after : goal.returns-in-Refused-clause-variables_after
+unfolding number_in place_after value_after answer_of
+returns-in-Refused-clause-variables_after c = search (value_by answer_of, rules)
+
+pub returns-in-Refused-clause-place_after : goal.returns-in-Refused-clause-place_after
+unfolding number_in place_after value_after answer_of
+returns-in-Refused-clause-place_after c = search (place_by answer_of, rules)

@@ -1,0 +1,29 @@
+use Rattle.undo_take.proofs.Undoing.{undoing}
+use Rattle.undo_take.proofs.undo_known.Goals as goal
+
+pub returns-then-session-eq0-clause-answer : goal.returns-then-session-eq0-clause-answer
+returns-then-session-eq0-clause-answer c = search undoing
+
+pub returns-then-session-eq0-clause-bytes : goal.returns-then-session-eq0-clause-bytes
+returns-then-session-eq0-clause-bytes c = search undoing
+
+pub put_back-requires : goal.put_back-requires
+put_back-requires c = search undoing
+
+pub returns-in-Nothing-clause-answer : goal.returns-in-Nothing-clause-answer
+returns-in-Nothing-clause-answer c = search undoing
+
+pub returns-in-Nothing-clause-bytes : goal.returns-in-Nothing-clause-bytes
+returns-in-Nothing-clause-bytes c = search undoing
+
+pub returns-in-Nothing-lookup-clause-answer : goal.returns-in-Nothing-lookup-clause-answer
+returns-in-Nothing-lookup-clause-answer c = search undoing
+
+pub returns-in-Nothing-lookup-clause-bytes : goal.returns-in-Nothing-lookup-clause-bytes
+returns-in-Nothing-lookup-clause-bytes c = search undoing
+
+pub returns-in-Is-clause-answer : goal.returns-in-Is-clause-answer
+returns-in-Is-clause-answer c = search undoing
+
+pub returns-in-Is-clause-bytes : goal.returns-in-Is-clause-bytes
+returns-in-Is-clause-bytes c = search undoing
