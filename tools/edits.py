@@ -199,7 +199,7 @@ class Log:
             error, goal, function = self.ERROR.match(line), self.GOAL.match(line), self.FUNCTION.match(line)
             if error:
                 # what only rests on another error shows nothing
-                if not re.search(r"not admitted.*(was|were) not checked|not admitted, so this file is not accepted", error[3]):
+                if not re.search(r"declarations? that depends? on .* not checked|not admitted, so this file is not accepted", error[3]):
                     self.faults.append(Fault(error[1], "", error[2] or "", line))
             elif goal:
                 self.faults.append(Fault(goal[1], self.function_at(goal[1], int(goal[2])), goal[3], line))
