@@ -97,7 +97,7 @@ unfolding fault_in is_whole blocks_in space
 fault_noticed b p v h g i small o =
     let s = sound b g in
     let same : 512 ≤ p → get_or (set b p v) 6 0 ≡ get_or b 6 0 = λ m. get_or-set_other b p 6 v 0 (λ e. omega (arith, e)) in
-    rw (length-set b p v, s.is_whole_law)
+    rw (length-set b p v, s.whole_blocks)
     (noticed_from v small (length b / 512) 0 (get_or b 6 0) (get_or (set b p v) 6 0) b p s.whole h s.good (omega (arith, s.whole)) o same ∙ ap (λ k. some (fault 43 k)) (zero-add (p / 512)))
 
 -- every other byte at every place of every backup that is read: 43 at the block in which it stands, whatever the room

@@ -39,7 +39,7 @@ passes_both k n sp b c g = rw (c, g)
 
 -- a backup with nothing wrong has whole blocks, at least one, each with nothing wrong
 pub record Sound (b : List ℕ) : Type 0 where
-  pub is_whole_law : (leb 1 (length b) && eqb (length b % 512) 0) ≡ true
+  pub whole_blocks : (leb 1 (length b) && eqb (length b % 512) 0) ≡ true
   pub some_blocks : 1 ≤ blocks_in b
   pub whole : length b ≡ 512 * blocks_in b
   pub good : first_bad 0 (blocks_in b) (space b) b ≡ none
@@ -51,7 +51,7 @@ sound b e =
     let d = parts (leb 1 (length b)) (eqb (length b % 512) 0) c.0 in
     let l : 1 ≤ length b = leb-true 1 (length b) d.0 in
     let m : length b % 512 ≡ 0 = eqb-true (length b % 512) 0 d.1 in
-    record { is_whole_law = c.0; some_blocks = omega arith; whole = omega arith; good = c.1 }
+    record { whole_blocks = c.0; some_blocks = omega arith; whole = omega arith; good = c.1 }
 
 -- reading accepts where nothing is wrong, and gives what the blocks say
 pub accepted_none : (b : List ℕ) (w : Kept) → reading b ≡ accepted w → (fault_in b ≡ none) × (window_in b ≡ w)

@@ -5,7 +5,7 @@
 ghost use Rattle.std.specs.Prelude.{◌≡◌, ◌≤◌, length};
 ghost use Rattle.pieces_cuts.specs.Cuts.{Stands};
 ghost use Rattle.pieces_cuts.specs.declared.Kind.TheVariants.{Start};
-ghost use Rattle.cdi.specs.Lists.{same as sameBytes};
+ghost use Rattle.cdi.specs.Lists.{same as same_bytes};
 ghost use Rattle.levels.specs.Ahead.{name_in};
 ghost use Rattle.children.specs.Siblings.{ahead, turn_of, Behind, NextChild, Passed, part_of, Named};
 
@@ -136,7 +136,7 @@ pub fn next_child(s: &[u8], at: usize) -> Child
 // Has the tag this name?
 pub fn is_named(s: &[u8], at: usize, tag: Cut, name: &[u8]) -> bool
     requires { Stands s.now at tag }
-    ensures { result ≡ sameBytes name.now (name_in s.now tag) }
+    ensures { result ≡ same_bytes name.now (name_in s.now tag) }
 {
     let from = tag.name;
     let to = tag.behind;

@@ -3,9 +3,9 @@
 #![tactic(auto)]
 
 ghost use Rattle.std.specs.Prelude.{◌≡◌, ◌≤◌, length, drop};
-ghost use Rattle.cdi.specs.Lists.{same as sameBytes, begins};
+ghost use Rattle.cdi.specs.Lists.{same as same_bytes, begins};
 ghost use Rattle.cdi.specs.Rules.{own_number};
-ghost use Rattle.cdi.specs.Access.{decoded as decodedText};
+ghost use Rattle.cdi.specs.Access.{decoded as decoded_text};
 ghost use Rattle.pieces_cuts.specs.Places.{part};
 ghost use Rattle.pieces_characters.specs.Characters.{utf8_of};
 ghost use Rattle.numbers.specs.Held.{number_of};
@@ -163,7 +163,7 @@ fn behind_character(code: u32, text: &[u8], k: usize) -> usize
 // Is the text what is to come at the level of this place, with its references decoded, and its comments and instructions dropped?
 pub fn is_decoded(s: &[u8], at: usize, text: &[u8]) -> bool
     requires { (at ≤ length s.now) × (2 ≤ length (ahead s.now at)) }
-    ensures { result ≡ sameBytes text.now (decodedText (here s.now at)) }
+    ensures { result ≡ same_bytes text.now (decoded_text (here s.now at)) }
 {
     let mut i = at;
     let mut k: usize = 0;

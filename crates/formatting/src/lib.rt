@@ -2,14 +2,14 @@
 #![tactic(auto)]
 
 ghost use Rattle.std.specs.Prelude.{◌≡◌};
-ghost use Rattle.cdi.specs.Lists.{ascii, same as sameBytes, after};
+ghost use Rattle.cdi.specs.Lists.{ascii, same as same_bytes, after};
 ghost use Rattle.cdi.specs.Pieces.{digit};
 ghost use Rattle.cdi.specs.Rules.{is_formatting};
 ghost use Rattle.formatting.specs.Formatting.{is_fraction};
 
 // Are these any digits or none, and then `f`?
 fn is_tail(s: &[u8]) -> bool
-    ensures { result ≡ sameBytes (after digit s.now) (ascii "f") }
+    ensures { result ≡ same_bytes (after digit s.now) (ascii "f") }
 {
     let end = scan::span(s, 0, scan::Class::Decimal);
     scan::same(&s[end..], b"f")

@@ -58,9 +58,9 @@ any_magnitude p said m = by (eqb said 0) (eqb said 1) (eqb said 2)
     by false false true = refl
     by false false false = refl
 
-and-false : (t : Bool) → (t && false) ≡ false
-and-false true = refl
-and-false false = refl
+and_false : (t : Bool) → (t && false) ≡ false
+and_false true = refl
+and_false false = refl
 
 module _ (p child size : ℕ) (numeric : Bool) (i : Known) where
   none_missing : (child ≡ 11 → ⊥) → missing_by p child i.one i.two ≡ []
@@ -78,11 +78,11 @@ module _ (p child size : ℕ) (numeric : Bool) (i : Known) where
   -- a relation and an int are no numbers
   relation_faults : child ≡ 11 → content_faults p child numeric size i ≡ unless (i.one && i.two) (fault 84 p)
   unfolding content_faults missing_by is_numeric
-  relation_faults e = rw (none_asked (rw e (and-false numeric)), no_int (λ z. omega arith), eq-eqb child 11 e) (append-nil (unless (i.one && i.two) (fault 84 p)))
+  relation_faults e = rw (none_asked (rw e (and_false numeric)), no_int (λ z. omega arith), eq-eqb child 11 e) (append-nil (unless (i.one && i.two) (fault 84 p)))
 
   int_faults : child ≡ 6 → content_faults p child numeric size i ≡ int_by p child (size_at size) i
   unfolding content_faults is_numeric
-  int_faults e = rw (none_missing (λ z. omega arith), none_asked (rw e (and-false numeric)))
+  int_faults e = rw (none_missing (λ z. omega arith), none_asked (rw e (and_false numeric)))
 
   other_faults : (child ≡ 11 → ⊥) → (child ≡ 6 → ⊥) → content_faults p child numeric size i ≡ number_by p numeric child i.said
   unfolding content_faults

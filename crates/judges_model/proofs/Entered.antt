@@ -72,9 +72,9 @@ pub blamed_alike : (l : Least) (fs gs : List Fault) → least fs ≡ least gs �
 unfolding blamed
 blamed_alike l fs gs e = ap (λ (o : Option Fault). to_least (lesser (as_fault l) o)) e
 
-or-false : (t : Bool) → (t || false) ≡ t
-or-false true = refl
-or-false false = refl
+or_false : (t : Bool) → (t || false) ≡ t
+or_false true = refl
+or_false false = refl
 
 module _ (j : Judge) (p : ℕ) (n : List ℕ) (s : List Attribute) (w : Named.Behind (p + 1) s) (o : Option Fault) {child entry : ℕ} (ec : child ≡ element_number n) (ee : entry ≡ entry_at j.row child) where
   low : rank (turn_number j.last entry) ≤ 10
@@ -98,12 +98,12 @@ module _ (j : Judge) (p : ℕ) (n : List ℕ) (s : List Attribute) (w : Named.Be
 
   foreign : j.row ≡ 24 → entered_by j p child entry o ≡ enter_of j p n s
   unfolding entered_by tag_faults row_in
-  foreign e = foreign_entered j p n s e (rw (eq-eqb entry 0 (ee ∙ sym (no_entry j.row (omega arith) child)), eq-eqb j.row 24 e, ← blamed_none j.least, or-false j.numeric))
+  foreign e = foreign_entered j p n s e (rw (eq-eqb entry 0 (ee ∙ sym (no_entry j.row (omega arith) child)), eq-eqb j.row 24 e, ← blamed_none j.least, or_false j.numeric))
 
   module _ (f : j.row ≡ 24 → ⊥) where
     unknown : entry ≡ 0 → entered_by j p child entry o ≡ enter_of j p n s
     unfolding entered_by tag_faults row_in
-    unknown z = unknown_entered j p n s f ec ee z refl (rw (eq-eqb entry 0 z, ne_eqb j.row 24 f, or-false j.numeric))
+    unknown z = unknown_entered j p n s f ec ee z refl (rw (eq-eqb entry 0 z, ne_eqb j.row 24 f, or_false j.numeric))
 
     known_child : (entry ≡ 0 → ⊥) → least (attribute_faults p (row_at child) s) ≡ o → entered_by j p child entry o ≡ enter_of j p n s
     unfolding entered_by tag_faults row_in turn_of

@@ -28,13 +28,13 @@ use Rattle.judges_state.specs.Steps.{faults_of, row_in, tag_faults, turn_of, ent
 use Rattle.judges_model.proofs.Entered.{entered}
 use Rattle.judges_model.proofs.Left.{left}
 
-or-true : (t : Bool) → (t || true) ≡ true
-or-true true = refl
-or-true false = refl
+or_true : (t : Bool) → (t || true) ≡ true
+or_true true = refl
+or_true false = refl
 
-or-false : (t : Bool) → (t || false) ≡ t
-or-false true = refl
-or-false false = refl
+or_false : (t : Bool) → (t || false) ≡ t
+or_false true = refl
+or_false false = refl
 
 -- a number has no fault
 value_good : (p : ℕ) (said : Said) → is_value said ≡ true → said_faults p said ≡ []
@@ -47,7 +47,7 @@ value_good p (Value w) e = refl
 module _ (j : Judge) (p : ℕ) (n : List ℕ) {child entry : ℕ} (ec : child ≡ element_number n) (ee : entry ≡ entry_at j.row child) (h : 12 ≤ child) (o : j.last < entry) where
   in_turn_law : turn_of j entry ≡ true
   unfolding turn_of in_turn
-  in_turn_law = rw (le-ltb entry j.last (omega arith), ne_eqb entry j.last (λ z. omega arith), or-true (eqb entry (many_at j.row)))
+  in_turn_law = rw (le-ltb entry j.last (omega arith), ne_eqb entry j.last (λ z. omega arith), or_true (eqb entry (many_at j.row)))
 
   no_faults : attribute_faults p (row_at child) [] ≡ []
   unfolding attribute_faults rules_faults names_faults
@@ -57,7 +57,7 @@ module _ (j : Judge) (p : ℕ) (n : List ℕ) {child entry : ℕ} (ec : child �
   entered_leaf : enter_of j p n [] ≡ fresh j.least child j.numeric
   unfolding entered_by tag_faults row_in faults_of Behind least
   entered_leaf = sym (entered j p n [] tt none ec ee (ap least no_faults))
-      ∙ rw (ne_eqb entry 0 (λ z. omega arith), in_turn_law, ← blamed_none j.least, ne_eqb child 6 (λ z. omega arith), or-false j.numeric)
+      ∙ rw (ne_eqb entry 0 (λ z. omega arith), in_turn_law, ← blamed_none j.least, ne_eqb child 6 (λ z. omega arith), or_false j.numeric)
 
   -- nor by its text
   run_least : (q : ℕ) (t : List ℕ) → (other_of (fresh j.least child j.numeric) q (text t)).least ≡ j.least

@@ -3,7 +3,7 @@
 
 ghost use Rattle.std.specs.Prelude.{◌≡◌, false};
 ghost use Rattle.rules_judge.specs.declared.Least.TheVariants.{Nothing};
-ghost use Rattle.rules_judge.specs.Judging.{fresh as freshJudge};
+ghost use Rattle.rules_judge.specs.Judging.{fresh as fresh_judge};
 ghost use Rattle.judges_state.specs.Decoded.{least_in, judge_of, Placed};
 
 use keys::NOTHING;
@@ -37,7 +37,7 @@ pub const FOREIGN: usize = 24;
 
 // Nothing of the content is read yet.
 pub fn fresh(least: usize, row: usize, numeric: bool) -> Judge
-    ensures result_value { judge_of result ≡ freshJudge (least_in least) row numeric }
+    ensures result_value { judge_of result ≡ fresh_judge (least_in least) row numeric }
     ensures places { Placed result }
 {
     Judge {
@@ -63,7 +63,7 @@ pub fn fresh(least: usize, row: usize, numeric: bool) -> Judge
 
 // The judge of the text itself, of which nothing is read yet.
 pub fn start() -> Judge
-    ensures result_value { judge_of result ≡ freshJudge Nothing 0 false }
+    ensures result_value { judge_of result ≡ fresh_judge Nothing 0 false }
     ensures places { Placed result }
 {
     fresh(NOTHING, 0, false)

@@ -3,7 +3,7 @@
 
 ghost use Rattle.std.specs.Prelude.{◌≡◌, ◌≤◌, ◌<◌, max};
 ghost use Rattle.std.proofs.Math.Option.{some};
-ghost use Rattle.cdi.specs.Faults.{fault, unless, rank, lesser, least as leastOf};
+ghost use Rattle.cdi.specs.Faults.{fault, unless, rank, lesser, least as least_of};
 ghost use Rattle.keys.specs.Keys.{number_of, fault_in};
 
 // No fault.
@@ -71,7 +71,7 @@ pub fn blame(least: usize, number: usize, place: usize) -> usize
 // The least with this fault more, where the test has failed.
 pub fn blame_unless(good: bool, least: usize, number: usize, place: usize) -> usize
     requires { (number < 128) × (place ≤ 65535) }
-    ensures { fault_in result ≡ lesser (fault_in least) (leastOf (unless good (fault number place))) }
+    ensures { fault_in result ≡ lesser (fault_in least) (least_of (unless good (fault number place))) }
 {
     if good {
         return least;

@@ -4,7 +4,7 @@
 ghost use Rattle.std.specs.Prelude.{◌≡◌, ◌-◌, ◌≤◌, length};
 ghost use Rattle.cdi.specs.Lists.{shorn};
 ghost use Rattle.cdi.specs.Pieces.{blank};
-ghost use Rattle.cdi.specs.Numbers.{number, digits as digitsIn};
+ghost use Rattle.cdi.specs.Numbers.{number, digits as digits_in};
 ghost use Rattle.cdi.specs.Values.{with_sign};
 ghost use Rattle.numbers.specs.Held.{held, one_more, digits_of, number_of, minus_of, nearest};
 ghost use Rattle.numbers.specs.Ends.{ended_by, behind_sign, Starts};
@@ -93,7 +93,7 @@ fn ended(s: &[u8], at: usize, n: Signed) -> Number
 
 // The number without a sign that these bytes are, blanks at the end aside.
 fn digits(s: &[u8]) -> Number
-    ensures { result ≡ digits_of (digitsIn (shorn blank s.now)) }
+    ensures { result ≡ digits_of (digits_in (shorn blank s.now)) }
 {
     let mut n = with_sign(false, 0);
     let mut i = 0;

@@ -2,7 +2,7 @@
 #![tactic(auto)]
 
 ghost use Rattle.std.specs.Prelude.{◌≡◌, true, ◌≤◌, ◌<◌, length, drop, get_or};
-ghost use Rattle.cdi.specs.Pieces.{is_xml, is_text, or_malformed, comment as commentOf, instruction as instructionOf, run};
+ghost use Rattle.cdi.specs.Pieces.{is_xml, is_text, or_malformed, comment as comment_of, instruction as instruction_of, run};
 ghost use Rattle.pieces_cuts.specs.Places.{Beyond};
 ghost use Rattle.pieces_cuts.specs.Cuts.{Cuts};
 
@@ -30,7 +30,7 @@ fn find(s: &[u8], at: usize, word: &[u8]) -> usize
 // A comment: s begins with its `<!--`.
 pub fn comment(s: &[u8]) -> Cut
     requires { 4 ≤ length s.now }
-    ensures { Cuts s.now 0 (or_malformed (commentOf (drop 4 s.now))) result }
+    ensures { Cuts s.now 0 (or_malformed (comment_of (drop 4 s.now))) result }
 {
     let dashes = find(s, 4, b"--");
     if dashes == 0 {
@@ -64,7 +64,7 @@ fn is_xml(s: &[u8]) -> bool
 // An instruction: s begins with its `<?`.
 pub fn instruction(s: &[u8]) -> Cut
     requires { 2 ≤ length s.now }
-    ensures { Cuts s.now 0 (or_malformed (instructionOf (drop 2 s.now))) result }
+    ensures { Cuts s.now 0 (or_malformed (instruction_of (drop 2 s.now))) result }
 {
     let behind = name_end(s, 2);
     if behind == 2 {

@@ -2,7 +2,7 @@
 #![tactic(auto)]
 
 ghost use Rattle.std.specs.Prelude.{◌≡◌, ◌≤◌, ◌<◌, length, drop};
-ghost use Rattle.cdi.specs.Pieces.{or_malformed, numbered as numberedIn, reference as referenceOf};
+ghost use Rattle.cdi.specs.Pieces.{or_malformed, numbered as numbered_in, reference as reference_of};
 ghost use Rattle.scan.specs.Spans.{of_class};
 ghost use Rattle.pieces_characters.specs.Characters.{digit_in, value_in, by_number};
 ghost use Rattle.pieces_cuts.specs.Cuts.{Cuts};
@@ -26,7 +26,7 @@ fn class_of(hex: bool) -> Class
 // A reference by number, whose digits begin at this place.
 fn numbered(s: &[u8], at: usize, hex: bool) -> Cut
     requires { (0 < length s.now) × (at ≤ length s.now) }
-    ensures { Cuts s.now 0 (or_malformed (numberedIn (digit_in hex) (value_in hex) (drop at s.now))) result }
+    ensures { Cuts s.now 0 (or_malformed (numbered_in (digit_in hex) (value_in hex) (drop at s.now))) result }
 {
     let class = class_of(hex);
     let end = span(s, at, class);
@@ -60,7 +60,7 @@ fn by_number(s: &[u8]) -> Cut
 // A reference: s begins with its `&`.
 pub fn reference(s: &[u8]) -> Cut
     requires { 1 ≤ length s.now }
-    ensures { Cuts s.now 0 (or_malformed (referenceOf (drop 1 s.now))) result }
+    ensures { Cuts s.now 0 (or_malformed (reference_of (drop 1 s.now))) result }
 {
     if begins_at(s, 1, b"lt;") {
         return character(s, 60, 4);

@@ -17,15 +17,15 @@ cond_true b x y e = rw e
 pub cond_false : {A : Type 0} (b : Bool) (x y : A) → b ≡ false → cond b x y ≡ y
 cond_false b x y e = rw e
 
-pub or-true : (x y : Bool) → x ≡ true → (x || y) ≡ true
-or-true x y e = rw e
+pub or_true : (x y : Bool) → x ≡ true → (x || y) ≡ true
+or_true x y e = rw e
 
-pub or-false : (x y : Bool) → x ≡ false → (x || y) ≡ y
-or-false x y e = rw e
+pub or_false : (x y : Bool) → x ≡ false → (x || y) ≡ y
+or_false x y e = rw e
 
 pub ruleset tests = (lt-ltb, le-ltb, le-leb, lt-leb, eq-eqb, ne_eqb, arith)
 
-pub ruleset calls = (cond_true, cond_false, or-true, or-false, via)
+pub ruleset calls = (cond_true, cond_false, or_true, or_false, via)
 
 -- a case on a test
 pub lt_or_le : (a b : ℕ) → (a < b) ⊎ (b ≤ a)

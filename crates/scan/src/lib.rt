@@ -3,7 +3,7 @@
 #![tactic(auto)]
 
 ghost use Rattle.std.specs.Prelude.{◌≡◌, ◌≤◌, length, get_or, drop, eqb};
-ghost use Rattle.cdi.specs.Lists.{any, same as sameBytes, begins, between};
+ghost use Rattle.cdi.specs.Lists.{any, same as same_bytes, begins, between};
 ghost use Rattle.cdi.specs.Pieces.{blank, digit, name_start, name_byte, is_text, hex_digit, value_byte};
 ghost use Rattle.scan.specs.Spans.{of_class, Span};
 
@@ -48,7 +48,7 @@ pub fn begins_at(s: &[u8], at: usize, word: &[u8]) -> bool
 
 // Are the two the same?
 pub fn same(a: &[u8], b: &[u8]) -> bool
-    ensures { result ≡ sameBytes a.now b.now }
+    ensures { result ≡ same_bytes a.now b.now }
 {
     if a.len() != b.len() {
         return false;

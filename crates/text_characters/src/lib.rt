@@ -3,7 +3,7 @@
 
 ghost use Rattle.std.specs.Prelude.{◌≡◌, true, ◌&&◌, [], ◌∷◌, ◌+◌, ◌*◌, ◌-◌, ◌≤◌, leb, drop};
 ghost use Rattle.cdi.specs.Lists.{between};
-ghost use Rattle.cdi.specs.Text.{continues, scalar, sequence as sequenceOf, character_at, is_char};
+ghost use Rattle.cdi.specs.Text.{continues, scalar, sequence as sequence_of, character_at, is_char};
 ghost use Rattle.text_characters.specs.Answers.{character_of};
 
 // A character's number and how many bytes it takes.
@@ -91,7 +91,7 @@ fn is_sequence(c: u32, smallest: u32) -> bool
 
 // The character of that number, if it is one and no shorter sequence holds it.
 fn sequence(c: u32, smallest: u32, width: usize) -> Character
-    ensures { character_of result ≡ sequenceOf true c smallest width }
+    ensures { character_of result ≡ sequence_of true c smallest width }
 {
     if is_sequence(c, smallest) {
         return Character::Is(c, width);
@@ -101,7 +101,7 @@ fn sequence(c: u32, smallest: u32, width: usize) -> Character
 
 // The character of two bytes.
 fn of_two(a: u8, b: u8) -> Character
-    ensures { character_of result ≡ sequenceOf (continues b) ((a - 192) * 64 + (b - 128)) 128 2 }
+    ensures { character_of result ≡ sequence_of (continues b) ((a - 192) * 64 + (b - 128)) 128 2 }
 {
     if does_continue(b) {
         return sequence(joined(above(a, 192), b), 128, 2);
@@ -111,7 +111,7 @@ fn of_two(a: u8, b: u8) -> Character
 
 // The character of three bytes.
 fn of_three(a: u8, b: u8, c: u8) -> Character
-    ensures { character_of result ≡ sequenceOf (continues b && continues c) (((a - 224) * 64 + (b - 128)) * 64 + (c - 128)) 2048 3 }
+    ensures { character_of result ≡ sequence_of (continues b && continues c) (((a - 224) * 64 + (b - 128)) * 64 + (c - 128)) 2048 3 }
 {
     if does_continue(b) {
         if does_continue(c) {
@@ -136,7 +136,7 @@ fn do_continue(b: u8, c: u8, d: u8) -> bool
 
 // The character of four bytes.
 fn of_four(a: u8, b: u8, c: u8, d: u8) -> Character
-    ensures { character_of result ≡ sequenceOf (continues b && continues c && continues d) ((((a - 240) * 64 + (b - 128)) * 64 + (c - 128)) * 64 + (d - 128)) 65536 4 }
+    ensures { character_of result ≡ sequence_of (continues b && continues c && continues d) ((((a - 240) * 64 + (b - 128)) * 64 + (c - 128)) * 64 + (d - 128)) 65536 4 }
 {
     if do_continue(b, c, d) {
         return sequence(joined(joined(joined(above(a, 240), b), c), d), 65536, 4);
