@@ -97,13 +97,18 @@ def lacking(crate):
     return [it for it in below(crate) if not os.path.isfile(f"{rlib(it)}/format") or os.path.isfile(f"{TOP}/crates/{it}/out/rlib/stamp")]
 
 
+# The libraries that rt has seen to be built in this run.
+READY = set()
+
+
 def make_ready(crate):
     """Builds the libraries below a crate where they are not there; says why and ends where one isn't proved."""
-    if is_proved() and not lacking(crate):
+    if READY.issuperset(below(crate)) or is_proved() and not lacking(crate):
         return
     ran = subprocess.run(["rt", "check", "--only", ""], cwd=f"{TOP}/crates/{crate}", stdin=subprocess.DEVNULL, stdout=subprocess.PIPE, stderr=subprocess.STDOUT, text=True)
     if not all(os.path.isfile(f"{rlib(it)}/format") for it in below(crate)) or re.search(r"(?m)^rt: the library \w+ did not build", ran.stdout):
         sys.exit(f"{ran.stdout[-2000:]}\n{os.path.basename(sys.argv[0])}: the libraries below {crate} are not proved")
+    READY.update(below(crate))
 
 
 def words(crate):

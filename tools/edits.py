@@ -2,7 +2,7 @@
 
 An edit holds one wrong program or several, each behind a line of its own:
   wrong: NAME in FUNCTION            a function is wrong: its own proof must fail
-  wrong: NAME in FUNCTION at GOAL    of two wrong places in one function: what its proof says of this goal must fail
+  wrong: NAME in FUNCTION at GOAL    of two wrong places in one function: what its proof says of this goal, or of a clause of it, must fail
   wrong: NAME by FACT                a definition is wrong: this fact of the crate must fail
 In names that an edit says - and _ are the same.
 
@@ -134,7 +134,8 @@ def logs_of(tries):
             os.utime(kept)
         except OSError:
             left[number] = (crate, texts, kept)
-    for crate in sorted({it[0] for it in left.values()}):
+    # those that stand on most come first
+    for crate in sorted({it[0] for it in left.values()}, key=lambda it: -len(crates.below(it))):
         crates.make_ready(crate)
 
     def one(number):
@@ -159,6 +160,11 @@ def logs_of(tries):
 
 def same(a, b):
     return a.replace("_", "-") == b.replace("_", "-")
+
+
+def is_at(fact, goal):
+    """Is the fact this goal, or a clause of it?"""
+    return same(fact.split("-clause-")[0], goal) or same(fact, goal)
 
 
 class Fault:
@@ -210,7 +216,8 @@ class Log:
                 else:
                     self.alone[name] = function[2] == "no proof"
             elif re.search(r"trial.*admitted by the kernel", line):
-                self.admitted.add(re.sub(r"^(\./)?([^:]*):.*", r"\2", line))
+                of = re.search(r"\(in `([^`]+)`\)$", line)
+                self.admitted.add((re.sub(r"^(\./)?([^:]*):.*", r"\2", line), of[1] if of else ""))
 
     def function_at(self, file, number):
         """The function in which this line stands."""
@@ -224,8 +231,10 @@ class Log:
         return not fault.function and bool(re.search(words, fault.text))
 
     def kind(self, fault):
-        if fault.file in self.admitted:
+        if not self.admitted.isdisjoint([(fault.file, fault.fact), (fault.file, "")]):
             return "admitted"
+        if fault.function and "allow values at which this goal is false" in fault.text:
+            return "fact"
         if self.is_unfit(fault):
             return "unfit"
         limits = r"give the call less to do|gave up at one of its limits|ran out of (stack|the (steps|memory))|(outgrew the memory limit|stopped at the step limit) \("
@@ -241,7 +250,7 @@ class Log:
         if wrong.how == "by":
             mine = [it for it in self.faults if same(it.fact, wrong.what)]
         else:
-            mine = [it for it in self.faults if it.proves(wrong.what, self.cycles) and (not wrong.need or same(it.fact, wrong.need))]
+            mine = [it for it in self.faults if it.proves(wrong.what, self.cycles) and (not wrong.need or is_at(it.fact, wrong.need))]
         return sorted(mine, key=lambda it: self.kind(it) != "fact")
 
     def proved_with(self, function):

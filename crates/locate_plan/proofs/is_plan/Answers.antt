@@ -1,3 +1,4 @@
+use borrow.Author.Rules.{rules}
 use Rattle.locate_plan.proofs.Tops.{planning}
 use Rattle.locate_plan.proofs.is_plan.Goals as goal
 
@@ -9,3 +10,6 @@ returns-then-records-gt-MOST_RECORDS c = search planning
 
 pub returns : goal.returns
 returns c = search planning
+
+pub segments-requires : goal.segments-requires
+segments-requires c = search rules
