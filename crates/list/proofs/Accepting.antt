@@ -55,5 +55,3 @@ module _ (b : List ℕ) (t : List ℤ) {a : Planned} (e : answer_of a ≡ planne
       ap (λ (x : List ℤ). is_plan (take (8 * n - 0) x)) (w ∙ fits_table b t d k m)
       ∙ ap is_plan (take_at (table_of d.segments) (drop (length (table_of d.segments)) t) (8 * n - 0) l)
       ∙ table_is_plan b d k
-
-pub ruleset accepting = (has_room_law, plan_in_front, rules)

@@ -1,7 +1,19 @@
 use Rattle.std.proofs.Common.{[], rules}
 use Rattle.listing_fill.proofs.Filled.{element_needs, element_fills, group_copying}
-use Rattle.listing_fill.proofs.Going.{going, going_needs}
+use Rattle.listing_fill.proofs.Going.{going, going_needs, GoingLess}
 use Rattle.listing_fill.proofs.+fill_copies_fill_element.Goals as goal
+
+pub fill_copies-loop-again-smaller-then-end-i :
+    goal.fill_copies-loop-again-smaller-then-end-i
+fill_copies-loop-again-smaller-then-end-i t c = search GoingLess
+
+pub fill_copies-loop-again-smaller-then-count-left :
+    goal.fill_copies-loop-again-smaller-then-count-left
+fill_copies-loop-again-smaller-then-count-left t c = search GoingLess
+
+pub fill_copies-loop-again-smaller :
+    goal.fill_copies-loop-again-smaller
+fill_copies-loop-again-smaller t c = search GoingLess
 
 pub fill_copies-loop-again-init : goal.fill_copies-loop-again-init
 fill_copies-loop-again-init t c = search going

@@ -1,5 +1,8 @@
-use Rattle.plan_table.proofs.Placing.{planning}
+use Rattle.plan_table.proofs.Placing.{planning, room_known}
 use Rattle.plan.proofs.plan_few.Goals as goal
+
+pub put-requires : goal.put-requires
+put-requires c = room_known c.has_room.ensures c.if-has_room.true
 
 pub returns-then-has_room-clause-answer : goal.returns-then-has_room-clause-answer
 returns-then-has_room-clause-answer c = search planning

@@ -1,4 +1,3 @@
-use borrow.Author.Rules.{rules}
 use Rattle.undo.proofs.Editing.{editing}
 use Rattle.undo.proofs.edit_known.Goals as goal
 
