@@ -220,8 +220,11 @@ class Log:
                 self.admitted.add((re.sub(r"^(\./)?([^:]*):.*", r"\2", line), of[1] if of else ""))
 
     def function_at(self, file, number):
-        """The function in which this line stands."""
-        lines = self.sources.get(file, "").split("\n")[:number]
+        """The function in which this line stands; an attribute stands in the one below it."""
+        lines = self.sources.get(file, "").split("\n")
+        while number < len(lines) and lines[number - 1].lstrip().startswith("#["):
+            number += 1
+        lines = lines[:number]
         found = [it for line in lines for it in re.findall(r'^(?:\s*)(?:pub )?(?:extern "C" )?fn (\w+)', line)]
         return found[-1] if found else "?"
 
