@@ -35,6 +35,8 @@ pub fn open_text(text: &[u8]) -> Result<usize, Refusal>
     ensures ends { Ended text.now result }
 {
     let told = examine(text);
-    let end = told.end.map_err(|place| Refusal { number: 1, place })?;
-    judged(&text[0..end], told.run)
+    match told.end {
+        Ok(end) => judged(&text[0..end], told.run),
+        Err(place) => Err(Refusal { number: 1, place }),
+    }
 }
