@@ -70,7 +70,6 @@ pub fn content_end(text: &[u8]) -> Result<usize, usize>
 }
 
 // May it stand in the content?
-#[tactic(auto, unfolding(cdi::specs::Text::allowed))]
 fn is_allowed(c: u32) -> bool
     ensures { result ≡ allowed c }
 {
@@ -119,7 +118,6 @@ fn first_bad(s: &[u8], set: Set, at: usize) -> Option<usize>
 }
 
 // Does the content begin with a byte-order mark? Its first byte tells most that don't.
-#[tactic(auto, using(crate::proofs::Checks::mark_test), unfolding(cdi::specs::Text::mark))]
 fn is_marked(content: &[u8]) -> bool
     ensures { result ≡ begins mark content.now }
 {
@@ -153,7 +151,6 @@ pub fn is_utf8(s: &[u8]) -> bool
 }
 
 // Does the content begin with the first line? If not: refusal 3.
-#[tactic(auto, unfolding(cdi::specs::Text::first_line))]
 pub fn is_opening(content: &[u8]) -> bool
     ensures { result ≡ begins first_line content.now }
 {
