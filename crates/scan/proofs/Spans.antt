@@ -1,5 +1,5 @@
 -- One scanning law over any test: the loop, and what a span says of the bytes that it passes.
-use mathlib.Core.Path.{◌≡◌, refl, sym, ap, ◌∙◌}
+use mathlib.Core.Path.{◌≡◌, refl, sym, ap, subst, ◌∙◌}
 use mathlib.Core.List.{List, [], ◌∷◌}
 use mathlib.Core.Bool.{Bool, true, false, cond, ◌&&◌}
 use mathlib.Core.Logic.{◌⊎◌, inl, inr, ⊎_elim}
@@ -12,13 +12,8 @@ use lib.Dec.{eqb}
 use lib.ListN.{length, take, drop, get_or, drop_of_length-le, length-drop}
 use lib.Seq.{drop-drop}
 use Rattle.cdi.specs.Lists.{all, while, after}
-use Rattle.scan.specs.Spans.{of_class, span_end, Span}
-use Rattle.scan.specs.declared.Class.{Class}
+use Rattle.scan.specs.Spans.{span_end, Span}
 use Rattle.scan.proofs.Along.{drop_next, part}
-
--- a class is known by its case
-pub of_class_law : {k d : Class} {r : Bool} (b : ℕ) → k ≡ d → r ≡ of_class d b → r ≡ of_class k b
-of_class_law b e h = rw e h
 
 -- all up to i pass
 pub record Spanning (p : ℕ → Bool) (s : List ℕ) (at i : ℕ) : Type 0 where
@@ -36,6 +31,9 @@ module _ {p : ℕ → Bool} {s : List ℕ} {at i : ℕ} (v : Spanning p s at i) 
   pub out : length s ≤ i → Span p s at i
   unfolding span_end while
   out h = ends (rw (drop_of_length-le s h) (add-zero i))
+
+  pub out_whole : length s ≤ i → Span p s at (length s)
+  out_whole h = let e : i ≡ length s = omega (arith, v.high) in subst (Span p s at) e (out h)
 
   module _ {r : Bool} (h : i < length s) (e : r ≡ p (get_or s i 0)) where
     pub stops : r ≡ false → Span p s at i

@@ -2,13 +2,16 @@
 use mathlib.Core.Path.{◌≡◌, refl, sym, ap, ◌∙◌}
 use mathlib.Core.List.{List, [], ◌∷◌}
 use mathlib.Core.Bool.{Bool, true, false, ◌&&◌}
-use Prim.Native.Nat.{ℕ, suc, ◌+◌, ◌-◌, ◌≤◌, ◌<◌}
+use Prim.Native.Nat.{ℕ, ◌+◌, ◌-◌, ◌≤◌, ◌<◌}
 use native.Mathlib.Nat.{add-zero, add_assoc}
 use native.Mathlib.Omega.{arith}
 use borrow.Author.Rules.{rules}
-use borrow.Author.Tests.{eq-eqb, ne_eqb}
+use borrow.Author.Tests.{eq-eqb, ne_eqb, eqb-true, eqb-false}
 use lib.Dec.{eqb}
-use lib.ListN.{length, drop, get_or, drop_of_length-le}
+use lib.ListN.{length, take, drop, get_or, drop_of_length-le, length-drop}
+use lib.Seq.{take_all}
+use lib.Pointwise.{pointwise}
+use Rattle.std.specs.List.{list_any}
 use Rattle.cdi.specs.Lists.{any, same, begins}
 use Rattle.cdi.proofs.Quiet.{impossible}
 use Rattle.cdi.proofs.Tests.{both_right}
@@ -43,6 +46,16 @@ start s at word = record { left = rw add-zero }
 
 pub ruleset word_loop = (start, full, short, differs, agrees, rules)
 
+-- the library compares a word with as many bytes
+front_begins : (w s : List ℕ) → pointwise eqb w (take (length w) s) ≡ begins w s
+unfolding begins
+front_begins [] s = refl
+front_begins (x ∷ w) [] = refl
+front_begins (x ∷ w) (y ∷ s) = ap (λ r. eqb x y && r) (front_begins w s)
+
+pub begun : (w s : List ℕ) (at n : ℕ) → length s - at ≤ n → pointwise eqb w (take (length w) (take n (drop at s))) ≡ begins w (drop at s)
+begun w s at n h = let l : length (drop at s) ≤ n = omega (arith, length-drop at s) in rw (take_all n (drop at s) l) (front_begins w (drop at s))
+
 -- a word that a text begins with is no longer than the text
 pub begun_length : (w s : List ℕ) → begins w s ≡ true → length w ≤ length s
 unfolding begins
@@ -50,52 +63,22 @@ begun_length [] s e = omega arith
 begun_length (x ∷ w) [] e = impossible (cc)
 begun_length (x ∷ w) (y ∷ s) e = let l = begun_length w s (both_right (eqb x y) _ e) in omega arith
 
--- two of one length are the same where one begins with the other
-same_begins : (a b : List ℕ) → length a ≡ length b → begins a b ≡ same a b
-unfolding begins same
-same_begins [] [] h = refl
-same_begins [] (y ∷ b) h = absurd (omega arith)
-same_begins (x ∷ a) [] h = absurd (omega arith)
-same_begins (x ∷ a) (y ∷ b) h = ap (λ r. eqb x y && r) (same_begins a b (omega arith))
-
-same_length : (a b : List ℕ) → (length a ≡ length b → ⊥) → same a b ≡ false
+pub both_same : (a b : List ℕ) → pointwise eqb a b ≡ same a b
 unfolding same
-same_length [] [] h = absurd (h refl)
-same_length [] (y ∷ b) h = refl
-same_length (x ∷ a) [] h = refl
-same_length (x ∷ a) (y ∷ b) h = by (eqb x y) (same_length a b (λ e. h (ap suc e)))
+both_same [] [] = refl
+both_same [] (y ∷ b) = refl
+both_same (x ∷ a) [] = refl
+both_same (x ∷ a) (y ∷ b) = ap (λ r. eqb x y && r) (both_same a b)
+
+turned : (x b : ℕ) → eqb x b ≡ eqb b x
+turned x b = by (eqb b x) refl
   where
-    by : (t : Bool) → same a b ≡ false → (t && same a b) ≡ false
-    by true e = e
-    by false e = refl
+    by : (t : Bool) → eqb b x ≡ t → eqb x b ≡ t
+    by true e = eq-eqb x b (sym (eqb-true b x e))
+    by false e = ne_eqb x b (λ h. eqb-false b x e (sym h))
 
-pub alike : (a b : List ℕ) {r : Bool} → length a ≡ length b → r ≡ begins a (drop 0 b) → r ≡ same a b
-alike a b h e = e ∙ same_begins a b h
-
-pub unlike : (a b : List ℕ) → (length a ≡ length b → ⊥) → false ≡ same a b
-unlike a b h = sym (same_length a b h)
-
-pub ruleset comparing = (alike, unlike, rules)
-
--- the byte does not stand before i
-pub record Looking (s : List ℕ) (b i : ℕ) : Type 0 where
-  pub left : any (eqb b) s ≡ any (eqb b) (drop i s)
-
-pub look : (s : List ℕ) (b : ℕ) → Looking s b 0
-look s b = record { left = refl }
-
-module _ {s : List ℕ} {b i : ℕ} (v : Looking s b i) where
-  pub nowhere : length s ≤ i → false ≡ any (eqb b) s
-  unfolding any
-  nowhere h = sym (v.left ∙ rw (drop_of_length-le s h))
-
-  module _ (h : i < length s) where
-    pub here : b ≡ get_or s i 0 → true ≡ any (eqb b) s
-    unfolding any
-    here e = sym (v.left ∙ rw (drop_next s i h, eq-eqb _ _ e))
-
-    pub not_here : (b ≡ get_or s i 0 → ⊥) → Looking s b (i + 1)
-    unfolding any
-    not_here e = record { left = v.left ∙ rw (drop_next s i h, ne_eqb _ _ e) }
-
-pub ruleset looking = (look, nowhere, here, not_here, rules)
+-- the library asks each byte for another one
+pub held : (b : ℕ) (s : List ℕ) → list_any (λ y. eqb y b) s ≡ any (eqb b) s
+unfolding any
+held b [] = refl
+held b (x ∷ s) = rw (turned x b, held b s) refl

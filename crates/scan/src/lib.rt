@@ -2,7 +2,7 @@
 // content has.
 #![tactic(auto)]
 
-ghost use Rattle.std.specs.Prelude.{◌≡◌, ◌≤◌, length, get_or, drop, eqb};
+ghost use Rattle.std.specs.Prelude.{◌≡◌, ℕ, Bool, ◌≤◌, length, get_or, drop, eqb};
 ghost use Rattle.cdi.specs.Lists.{any, same as same_bytes, begins, between};
 ghost use Rattle.cdi.specs.Pieces.{blank, digit, name_start, name_byte, is_text, hex_digit, value_byte};
 ghost use Rattle.scan.specs.Spans.{of_class, Span};
@@ -22,10 +22,7 @@ pub enum Class {
 pub fn byte_at(s: &[u8], at: usize) -> u8
     ensures { result ≡ get_or s.now at 0 }
 {
-    if at < s.len() {
-        return s[at];
-    }
-    0
+    s.get(at).copied().unwrap_or(0)
 }
 
 // Does the word stand at this place?
@@ -33,130 +30,73 @@ pub fn begins_at(s: &[u8], at: usize, word: &[u8]) -> bool
     requires { at ≤ length s.now }
     ensures { result ≡ begins word.now (drop at s.now) }
 {
-    let mut i = 0;
-    while i < word.len() {
-        if s.len() - at <= i {
-            return false;
-        }
-        if word[i] != s[at + i] {
-            return false;
-        }
-        i += 1;
-    }
-    true
+    s[at..].starts_with(word)
 }
 
 // Are the two the same?
 pub fn same(a: &[u8], b: &[u8]) -> bool
     ensures { result ≡ same_bytes a.now b.now }
 {
-    if a.len() != b.len() {
-        return false;
-    }
-    begins_at(b, 0, a)
+    a == b
 }
 
 // Does the byte stand anywhere in this?
 pub fn holds(s: &[u8], b: u8) -> bool
     ensures { result ≡ any (eqb b) s.now }
 {
-    let mut i = 0;
-    while i < s.len() {
-        if b == s[i] {
-            return true;
-        }
-        i += 1;
-    }
-    false
+    s.contains(&b)
 }
 
-fn is_between(lo: u8, hi: u8, b: u8) -> bool
-    ensures { result ≡ between lo hi b }
-{
-    if b < lo {
-        return false;
-    }
-    b <= hi
-}
-
+#[tactic(auto, unfolding(cdi::specs::Pieces::blank))]
 pub fn is_blank(b: u8) -> bool
     ensures { result ≡ blank b }
 {
-    if b == 32 {
-        return true;
-    }
-    if b == 9 {
-        return true;
-    }
-    b == 10
+    matches!(b, 32 | 9 | 10)
 }
 
+#[tactic(auto, unfolding(cdi::specs::Pieces::digit, cdi::specs::Lists::between))]
 pub fn is_digit(b: u8) -> bool
     ensures { result ≡ digit b }
 {
-    is_between(48, 57, b)
+    matches!(b, 48..=57)
 }
 
+#[tactic(auto, unfolding(cdi::specs::Pieces::name_start, cdi::specs::Lists::between))]
 pub fn is_name_start(b: u8) -> bool
     ensures { result ≡ name_start b }
 {
-    if is_between(97, 122, b) {
-        return true;
-    }
-    if is_between(65, 90, b) {
-        return true;
-    }
-    if b == 95 {
-        return true;
-    }
-    b == 58
+    matches!(b, 97..=122 | 65..=90 | 95 | 58)
 }
 
+#[tactic(auto, unfolding(cdi::specs::Pieces::name_byte))]
 pub fn is_name_byte(b: u8) -> bool
     ensures { result ≡ name_byte b }
 {
-    if is_name_start(b) {
-        return true;
-    }
-    if is_digit(b) {
-        return true;
-    }
-    if b == 45 {
-        return true;
-    }
-    b == 46
+    is_name_start(b) || is_digit(b) || b == 45 || b == 46
 }
 
+#[tactic(auto, unfolding(cdi::specs::Pieces::is_text))]
 fn is_text(b: u8) -> bool
     ensures { result ≡ is_text b }
 {
-    if b == 60 {
-        return false;
-    }
-    b != 38
+    b != 60 && b != 38
 }
 
+#[tactic(auto, unfolding(cdi::specs::Pieces::hex_digit, cdi::specs::Lists::between))]
 fn is_hex_digit(b: u8) -> bool
     ensures { result ≡ hex_digit b }
 {
-    if is_digit(b) {
-        return true;
-    }
-    if is_between(65, 70, b) {
-        return true;
-    }
-    is_between(97, 102, b)
+    is_digit(b) || matches!(b, 65..=70 | 97..=102)
 }
 
+#[tactic(auto, unfolding(cdi::specs::Pieces::value_byte))]
 pub fn is_value_byte(quote: u8, b: u8) -> bool
     ensures { result ≡ value_byte quote b }
 {
-    if b == quote {
-        return false;
-    }
-    b != 60
+    b != quote && b != 60
 }
 
+#[tactic(auto, unfolding(crate::specs::Spans::of_class))]
 fn is_of(class: Class, b: u8) -> bool
     ensures { result ≡ of_class class b }
 {
@@ -170,18 +110,24 @@ fn is_of(class: Class, b: u8) -> bool
     }
 }
 
+// The place behind the bytes that pass the test and stand at this place.
+pub fn span_while<F: Fn(u8) -> bool>(s: &[u8], at: usize, passes: F) -> usize
+    requires at { at ≤ length s.now }
+    requires callable { F.IsAlwaysCallable passes }
+    ensures { (p : ℕ → Bool) → ((b : ℕ) → (r : Bool) → F.post passes b r → r ≡ p b) → Span p s.now at result }
+{
+    for i in at..s.len() {
+        if !passes(s[i]) {
+            return i;
+        }
+    }
+    s.len()
+}
+
 // The place behind the bytes of that class that stand at this place.
 pub fn span(s: &[u8], at: usize, class: Class) -> usize
     requires { at ≤ length s.now }
     ensures { Span (of_class class) s.now at result }
 {
-    let mut i = at;
-    while i < s.len() {
-        if is_of(class, s[i]) {
-            i += 1;
-        } else {
-            return i;
-        }
-    }
-    i
+    span_while(s, at, |b| is_of(class, b))
 }
