@@ -63,12 +63,15 @@ begun_length [] s e = omega arith
 begun_length (x ∷ w) [] e = impossible (cc)
 begun_length (x ∷ w) (y ∷ s) e = let l = begun_length w s (both_right (eqb x y) _ e) in omega arith
 
-pub both_same : (a b : List ℕ) → pointwise eqb a b ≡ same a b
+both_same : (a b : List ℕ) → pointwise eqb a b ≡ same a b
 unfolding same
 both_same [] [] = refl
 both_same [] (y ∷ b) = refl
 both_same (x ∷ a) [] = refl
 both_same (x ∷ a) (y ∷ b) = ap (λ r. eqb x y && r) (both_same a b)
+
+pub same_told : (a b : List ℕ) {r : Bool} → r ≡ pointwise eqb a b → r ≡ same a b
+same_told a b e = e ∙ both_same a b
 
 turned : (x b : ℕ) → eqb x b ≡ eqb b x
 turned x b = by (eqb b x) refl

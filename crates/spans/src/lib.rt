@@ -8,7 +8,7 @@ ghost use Rattle.cdi.specs.Pieces.{blank, value_byte};
 ghost use Rattle.scan.specs.Spans.{of_class, Span};
 ghost use Rattle.scan.specs.declared.Class.TheVariants.{Name, Value};
 
-use scan::{is_blank, is_name_byte};
+use scan::{is_blank, is_name_byte, is_value_byte, span_while};
 
 // Where a value ends: the place of its closing quote, or of what stands in its place, and whether `&` stands before it.
 #[derive(Clone, Copy)]
@@ -21,10 +21,7 @@ pub struct Ended {
 pub fn is_at(s: &[u8], at: usize, b: u8) -> bool
     ensures { result ≡ begins (b ∷ []) (drop at s.now) }
 {
-    if s.len() <= at {
-        return false;
-    }
-    b == s[at]
+    at < s.len() && b == s[at]
 }
 
 // The place behind the blanks that stand at this place.
@@ -32,15 +29,7 @@ pub fn blanks(s: &[u8], at: usize) -> usize
     requires { at ≤ length s.now }
     ensures { Span blank s.now at result }
 {
-    let mut i = at;
-    while i < s.len() {
-        if is_blank(s[i]) {
-            i += 1;
-        } else {
-            return i;
-        }
-    }
-    i
+    span_while(s, at, |b| is_blank(b))
 }
 
 // The place behind the bytes of a name that stand at this place.
@@ -48,15 +37,7 @@ pub fn name_rest(s: &[u8], at: usize) -> usize
     requires { at ≤ length s.now }
     ensures { Span (of_class Name) s.now at result }
 {
-    let mut i = at;
-    while i < s.len() {
-        if is_name_byte(s[i]) {
-            i += 1;
-        } else {
-            return i;
-        }
-    }
-    i
+    span_while(s, at, |b| is_name_byte(b))
 }
 
 // The place behind the bytes of a value in this quote that stand at this place.
@@ -64,15 +45,7 @@ pub fn value_rest(s: &[u8], at: usize, quote: u8) -> usize
     requires { at ≤ length s.now }
     ensures { Span (of_class (Value quote)) s.now at result }
 {
-    let mut i = at;
-    while i < s.len() {
-        if is_value_byte(quote, s[i]) {
-            i += 1;
-        } else {
-            return i;
-        }
-    }
-    i
+    span_while(s, at, |b| is_value_byte(quote, b))
 }
 
 // The end of the value in that quote whose first byte stands at this place.
@@ -81,29 +54,16 @@ pub fn value_end(s: &[u8], at: usize, quote: u8) -> Ended
     ensures span { Span (value_byte quote) s.now at result.close }
     ensures refers { result.refers ≡ any (eqb 38) (take (result.close - at) (drop at s.now)) }
 {
-    let mut i = at;
     let mut refers = false;
-    while i < s.len() {
+    for i in at..s.len() {
         let b = s[i];
-        if is_value_byte(quote, b) {
-            refers = refers | is_reference(b);
-            i += 1;
-        } else {
+        if !is_value_byte(quote, b) {
             return Ended { close: i, refers };
         }
+        refers |= b'&' == b;
     }
-    Ended { close: i, refers }
-}
-
-fn is_value_byte(quote: u8, b: u8) -> bool
-    ensures { result ≡ value_byte quote b }
-{
-    (b != quote) & (b != 60)
-}
-
-// Does a reference begin with this byte?
-fn is_reference(b: u8) -> bool
-    ensures { result ≡ eqb 38 b }
-{
-    38 == b
+    Ended {
+        close: s.len(),
+        refers,
+    }
 }

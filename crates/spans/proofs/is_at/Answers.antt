@@ -1,8 +1,8 @@
 use Rattle.spans.proofs.Standing.{standing}
 use Rattle.spans.proofs.is_at.Goals as goal
 
-pub returns-then-s-at : goal.returns-then-s-at
-returns-then-s-at c = search standing
+pub returns-then-at-s : goal.returns-then-at-s
+returns-then-at-s c = search standing
 
-pub returns : goal.returns
-returns c = search standing
+pub returns-else-at-s : goal.returns-else-at-s
+returns-else-at-s c = search standing
