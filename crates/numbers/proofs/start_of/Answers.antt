@@ -1,0 +1,5 @@
+use Rattle.numbers.proofs.Reading.{starts}
+use Rattle.numbers.proofs.start_of.Goals as goal
+
+pub returns-then-is_digit-clause-starts : goal.returns-then-is_digit-clause-starts
+returns-then-is_digit-clause-starts c = search starts
