@@ -8,6 +8,7 @@ ghost use Rattle.numbers_order.specs.Equal.{is_equal};
 
 use numbers::Signed;
 
+#[tactic(auto, unfolding(numbers::specs::Held::size_of))]
 fn is_nought(n: Signed) -> bool
     ensures { result ≡ eqb (size_of n) 0 }
 {
@@ -15,6 +16,7 @@ fn is_nought(n: Signed) -> bool
 }
 
 // Is the magnitude of a at most that of b?
+#[tactic(auto, unfolding(numbers::specs::Held::size_of))]
 fn is_no_larger(a: Signed, b: Signed) -> bool
     ensures { result ≡ leb (size_of a) (size_of b) }
 {
@@ -34,6 +36,7 @@ pub fn is_at_most(a: Signed, b: Signed) -> bool
 }
 
 // Is the number that was read this one? Minus zero is zero.
+#[tactic(auto, unfolding(crate::specs::Equal::is_equal))]
 pub fn is_equal(n: Signed, negative: bool, magnitude: u64) -> bool
     ensures { (result ≡ is_equal n negative magnitude) × (magnitude < 2 ^ 64) }
 {
