@@ -8,7 +8,7 @@ use answers_out::{tell, words};
 use formatting::is_formatting;
 use frames::Field;
 use names::{attribute_number, element_number};
-use numbers::{Number, read_number};
+use numbers::read_number;
 use pieces::piece_at;
 use pieces_attributes::next_attribute;
 use pieces_cuts::{Cut, Kind};
@@ -45,7 +45,7 @@ fn characters(s: &[u8]) -> Line
 fn number(s: &[u8]) -> Line
     ensures { result.count ≤ 4 }
 {
-    let Number::Is(n) = read_number(s) else {
+    let Some(n) = read_number(s) else {
         return plain(words::NO_NUMBER);
     };
     if n.large {

@@ -69,8 +69,6 @@ module _ (m p : ℕ) (n q : Bool) where
   pub order_above : n ≡ false → q ≡ false → leb m p ≡ le_z (with_sign n m) (with_sign q p)
   order_above e f = above_above m p ∙ rw (e, f)
 
-pub ruleset ordering = (order_below, order_around, order_nought, order_above, rules)
-
 -- ── what a size can store ──
 
 module _ (n : ℕ) where
@@ -148,17 +146,6 @@ module _ (n k h : ℕ) (signed negative : Bool) (e : h ≡ 2 ^ (8 * size_at n - 
     plain_above g = between _ _ nought_is whole_is (sym (leb-zero k) ∙ order_above 0 k false negative refl g) (order_above k (h + (h - 1)) negative false g refl)
 
 pub ruleset storing = (signed_below, signed_above, plain_below, plain_above, rules)
-
--- ── where it is asked ──
-
-module _ (asked : Bool) (t : Bool) where
-  pub is_asked : {r : Bool} → asked ≡ true → r ≡ t → r ≡ (not asked || t)
-  is_asked e f = f ∙ rw e
-
-  pub not_asked : asked ≡ false → true ≡ (not asked || t)
-  not_asked e = rw e
-
-pub ruleset asking = (is_asked, not_asked, rules)
 
 -- ── the faults of min and max ──
 

@@ -11,8 +11,11 @@ ghost use Rattle.judges_state.specs.Steps.{size_at};
 
 use judges_state::Judge;
 use keys::blame_unless;
+use numbers::with_sign;
+use numbers_order::is_at_most;
 
 // Half of the numbers that a size can store: 1, 2, 4 or 8 bytes.
+#[tactic(auto, unfolding(judges_state::specs::Steps::size_at))]
 fn half(size: u64) -> u64
     requires { 1 ≤ size }
     ensures value { result ≡ 2 ^ (8 * size_at size - 1) }
@@ -32,16 +35,12 @@ fn is_storable(signed: bool, size: u64, negative: bool, magnitude: u64) -> bool
     ensures { result ≡ storable signed (size_at size) (with_sign negative magnitude) }
 {
     let most = half(size);
-    if signed {
-        if negative {
-            return magnitude <= most;
-        }
-        return magnitude <= most - 1;
+    match (signed, negative) {
+        (true, true) => magnitude <= most,
+        (true, false) => magnitude <= most - 1,
+        (false, true) => magnitude == 0,
+        (false, false) => magnitude <= most + (most - 1),
     }
-    if negative {
-        return magnitude == 0;
-    }
-    magnitude <= most + (most - 1)
 }
 
 // Can a size store a bound, where it is there?
@@ -49,36 +48,14 @@ fn is_held(there: bool, signed: bool, size: u64, negative: bool, magnitude: u64)
     requires { 1 ≤ size }
     ensures { result ≡ (not there || storable signed (size_at size) (with_sign negative magnitude)) }
 {
-    if there {
-        return is_storable(signed, size, negative, magnitude);
-    }
-    true
+    !there || is_storable(signed, size, negative, magnitude)
 }
 
-// Is min at most max? Each has its sign before it.
-fn is_at_most(minus: bool, min: u64, negative: bool, max: u64) -> bool
-    ensures { result ≡ le_z (with_sign minus min) (with_sign negative max) }
-{
-    if minus {
-        if negative {
-            return max <= min;
-        }
-        return true;
-    }
-    if negative {
-        return (min == 0) & (max == 0);
-    }
-    min <= max
-}
-
-// Is min at most max, where that is asked?
+// Is min at most max, where that is asked? Each has its sign before it.
 fn is_in_order(asked: bool, minus: bool, min: u64, negative: bool, max: u64) -> bool
     ensures { result ≡ (not asked || le_z (with_sign minus min) (with_sign negative max)) }
 {
-    if asked {
-        return is_at_most(minus, min, negative, max);
-    }
-    true
+    !asked || is_at_most(with_sign(minus, min), with_sign(negative, max))
 }
 
 // The least with the faults of the bounds of an int of that size, which stands at that place. Without min, 0 is stored and no max that is stored lies

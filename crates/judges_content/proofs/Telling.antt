@@ -1,20 +1,20 @@
 -- What a text says as a number, by each way through the code.
 use mathlib.Core.Path.{◌≡◌, refl, sym, ap, ◌∙◌}
 use mathlib.Core.List.{List}
-use mathlib.Core.Bool.{Bool, true, false, cond, ◌&&◌}
+use mathlib.Core.Bool.{Bool, true, false, cond, ◌&&◌, ◌||◌}
 use mathlib.Core.Option.{Option, none, some}
 use Prim.Native.Nat.{ℕ, suc, ◌-◌, ◌^◌, ◌<◌, ◌≤◌}
 use native.Mathlib.Omega.{arith}
 use borrow.Author.Rules.{rules}
-use borrow.Author.Tests.{ltb-true, ltb-false, lt-ltb, le-ltb, le-leb, lt-leb}
+use borrow.Author.Tests.{ltb-true, ltb-false, le-ltb, le-leb, lt-leb}
 use lib.Dec.{leb, ltb}
 use lib.IntN.{ℤ, pos, negsuc}
+use Rattle.std.specs.Prelude as std
+use Rattle.std.specs.Prelude.{Some, None}
 use Rattle.cdi.specs.Numbers.{number, within, bounded}
 use Rattle.cdi.proofs.Quiet.{impossible}
 use Rattle.numbers.specs.Held.{held, signed_of, number_of}
 use Rattle.numbers.specs.declared.Signed.{Signed}
-use Rattle.numbers.specs.declared.Number.{Number}
-use Rattle.numbers.specs.declared.Number.TheVariants as number
 use Rattle.rules_judge.specs.declared.Said.{Said}
 use Rattle.rules_judge.specs.declared.Said.TheVariants.{No, Large, Value}
 use Rattle.rules_judge.specs.Judging.{as_whole, said_by}
@@ -22,7 +22,7 @@ use Rattle.judges_state.specs.Decoded.{said_of}
 
 -- what a number that was read says: it is out of range where it is large, or negative and beyond -2^63
 heard : Signed → Said
-heard n = cond n.large Large (cond (n.negative && ltb (2 ^ 63) n.magnitude) Large (Value (record { negative = n.negative; magnitude = n.magnitude })))
+heard n = cond (n.large || (n.negative && ltb (2 ^ 63) n.magnitude)) Large (Value (record { negative = n.negative; magnitude = n.magnitude }))
 
 said_is : (z : ℤ) → said_by (some z) ≡ heard (signed_of z)
 unfolding said_by heard signed_of held bounded within as_whole
@@ -40,37 +40,33 @@ said_is (negsuc m) = by (ltb (suc m) (2 ^ 64)) refl (ltb (2 ^ 63) (suc m)) refl
     by true e false f = let g : suc m ≤ 2 ^ 63 = ltb-false (2 ^ 63) (suc m) f in rw (le-leb m (2 ^ 63 - 1) (omega (arith, g)), f)
     by false e u f = let g : 2 ^ 64 ≤ suc m = ltb-false (suc m) (2 ^ 64) e in rw (lt-leb m (2 ^ 63 - 1) (omega (arith, g)))
 
-is_no : (o : Option ℤ) → number.Not ≡ number_of o → No ≡ said_by o
+is_no : (o : Option ℤ) → None ≡ number_of o → No ≡ said_by o
 unfolding number_of said_by
 is_no none e = refl
 is_no (some z) e = impossible (cc)
 
-is_heard : (o : Option ℤ) {n : Signed} → number.Is n ≡ number_of o → heard n ≡ said_by o
+is_heard : (o : Option ℤ) {n : Signed} → Some n ≡ number_of o → heard n ≡ said_by o
 unfolding number_of
 is_heard none e = impossible (cc)
 is_heard (some z) {n} e = let q : n ≡ signed_of z = cc in ap heard q ∙ sym (said_is z)
 
-module _ (v : List ℕ) {q : Number} (e : q ≡ number_of (number v)) where
-  pub says_no : q ≡ number.Not → said_of 1 0 ≡ said_by (number v)
+module _ (v : List ℕ) {q : std.Option Signed} (e : q ≡ number_of (number v)) where
+  pub says_no : q ≡ None → said_of 1 0 ≡ said_by (number v)
   unfolding said_of
   says_no f = is_no (number v) (sym f ∙ e)
 
-  module _ {n : Signed} (f : q ≡ number.Is n) where
-    pub says_large : n.large ≡ true → said_of 2 0 ≡ said_by (number v)
+  module _ {n : Signed} (f : q ≡ Some n) where
+    pub says_beyond : (n.large || (n.negative && ltb 0x8000_0000_0000_0000 n.magnitude)) ≡ true → said_of 2 0 ≡ said_by (number v)
     unfolding said_of heard
-    says_large g = sym (rw g) ∙ is_heard (number v) (sym f ∙ e)
+    says_beyond g = sym (rw g) ∙ is_heard (number v) (sym f ∙ e)
 
-    module _ (g : n.large ≡ false) where
-      pub says_low : n.negative ≡ true → 0x8000_0000_0000_0000 < n.magnitude → said_of 2 0 ≡ said_by (number v)
+    module _ (g : (n.large || (n.negative && ltb 0x8000_0000_0000_0000 n.magnitude)) ≡ false) where
+      pub says_negative : n.negative ≡ true → said_of 4 n.magnitude ≡ said_by (number v)
       unfolding said_of heard
-      says_low h k = sym (rw (g, h, lt-ltb (2 ^ 63) n.magnitude k)) ∙ is_heard (number v) (sym f ∙ e)
-
-      pub says_negative : n.negative ≡ true → n.magnitude ≤ 0x8000_0000_0000_0000 → said_of 4 n.magnitude ≡ said_by (number v)
-      unfolding said_of heard
-      says_negative h k = sym (rw (g, h, le-ltb (2 ^ 63) n.magnitude k)) ∙ is_heard (number v) (sym f ∙ e)
+      says_negative h = sym (rw (g, h)) ∙ is_heard (number v) (sym f ∙ e)
 
       pub says_plain : n.negative ≡ false → said_of 3 n.magnitude ≡ said_by (number v)
       unfolding said_of heard
       says_plain h = sym (rw (g, h)) ∙ is_heard (number v) (sym f ∙ e)
 
-pub ruleset saying = (says_no, says_large, says_low, says_negative, says_plain, rules)
+pub ruleset saying = (says_no, says_beyond, says_negative, says_plain, rules)

@@ -13,9 +13,10 @@ ghost use Rattle.judges_state.specs.Steps.{rare_of};
 use judges_state::Judge;
 use judges_tables::{holds_text, is_numeric};
 use keys::blame_unless;
-use numbers::{Number, read_number};
+use numbers::read_number;
 
 // What a text says as a number, as a judge has it.
+// A code and no enum: a judge holds plain numbers (`judges_state`), and this is stored in it as it is.
 #[derive(Clone, Copy)]
 pub struct Spoken {
     pub said: usize,
@@ -26,32 +27,21 @@ pub struct Spoken {
 pub fn told(value: &[u8]) -> Spoken
     ensures { said_of result.said result.magnitude ≡ said_by (number value.now) }
 {
-    let Number::Is(n) = read_number(value) else {
+    let Some(n) = read_number(value) else {
         return Spoken {
             said: 1,
             magnitude: 0,
         };
     };
-    if n.large {
+    let beyond = n.large | (n.negative & (0x8000_0000_0000_0000 < n.magnitude));
+    if beyond {
         return Spoken {
             said: 2,
             magnitude: 0,
         };
     }
-    if n.negative {
-        if 0x8000_0000_0000_0000 < n.magnitude {
-            return Spoken {
-                said: 2,
-                magnitude: 0,
-            };
-        }
-        return Spoken {
-            said: 4,
-            magnitude: n.magnitude,
-        };
-    }
     Spoken {
-        said: 3,
+        said: if n.negative { 4 } else { 3 },
         magnitude: n.magnitude,
     }
 }
@@ -61,26 +51,23 @@ fn said_with(asked: bool, said: usize, magnitude: u64, s: &[u8], at: usize, end:
     requires { (at < end) × (end ≤ length s.now) }
     ensures { said_of result.said result.magnitude ≡ cond asked (spoken (said_of said magnitude) (text (part s.now at end))) (said_of said magnitude) }
 {
-    if asked {
-        if said == 0 {
-            return told(&s[at..end]);
-        }
-        return Spoken {
+    if !asked {
+        Spoken { said, magnitude }
+    } else if said == 0 {
+        told(&s[at..end])
+    } else {
+        Spoken {
             said: 1,
             magnitude: 0,
-        };
+        }
     }
-    Spoken { said, magnitude }
 }
 
 // What an element has said with a comment, an instruction or a reference more: no number, where it must be one.
 fn said_behind(asked: bool, said: usize) -> usize
     ensures { result ≡ cond asked 1 said }
 {
-    if asked {
-        return 1;
-    }
-    said
+    if asked { 1 } else { said }
 }
 
 // The judge behind a run of text from this place to `end`, whose first byte that isn't blank stands at `solid`.

@@ -7,32 +7,13 @@ ghost use Rattle.numbers.specs.Held.{low_of, high_of};
 
 use numbers::Range;
 
-// Half of the numbers that a size can store, for sizes from 1 to 8.
-const HALVES: [u64; 9] = [
-    1,
-    0x80,
-    0x8000,
-    0x80_0000,
-    0x8000_0000,
-    0x80_0000_0000,
-    0x8000_0000_0000,
-    0x80_0000_0000_0000,
-    0x8000_0000_0000_0000,
-];
-
-fn wide(size: u8) -> usize
-    ensures { result ≡ size }
-{
-    size as usize
-}
-
+// Half of the numbers that a size can store.
 fn half(size: u8) -> u64
     requires { size ≤ 8 }
     ensures value { result ≡ 2 ^ (8 * size - 1) }
     ensures bounds { (1 ≤ result) × (result ≤ 0x8000_0000_0000_0000) }
 {
-    let i = wide(size);
-    HALVES[i]
+    1 << (8 * size).saturating_sub(1)
 }
 
 // The numbers that the size can store, signed or not.
@@ -44,15 +25,16 @@ pub fn range_of(signed: bool, size: u8) -> Range
 {
     let most = half(size);
     if signed {
-        return Range {
+        Range {
             negative: true,
             low: most,
             high: most - 1,
-        };
-    }
-    Range {
-        negative: false,
-        low: 0,
-        high: most + (most - 1),
+        }
+    } else {
+        Range {
+            negative: false,
+            low: 0,
+            high: most + (most - 1),
+        }
     }
 }

@@ -10,6 +10,8 @@ use borrow.Author.Rules.{rules}
 use borrow.Author.Tests.{lt-ltb, le-ltb, eq-eqb, ne_eqb}
 use lib.Dec.{eqb}
 use lib.IntN.{ℤ}
+use Rattle.std.specs.Prelude as std
+use Rattle.std.specs.Prelude.{Some, None}
 use Rattle.cdi.specs.Lists.{ascii, same, lists_page}
 use Rattle.cdi.specs.Numbers.{number, within}
 use Rattle.cdi.specs.Rows.{range, rows_page}
@@ -18,8 +20,6 @@ use Rattle.cdi.proofs.Quiet.{impossible}
 use Rattle.scan.proofs.Tests.{lt_or_le, eq_or_ne}
 use Rattle.numbers.specs.Held.{signed_of, number_of, Judges}
 use Rattle.numbers.specs.declared.Signed.{Signed}
-use Rattle.numbers.specs.declared.Number.{Number}
-use Rattle.numbers.specs.declared.Number.TheVariants.{Is, Not}
 use Rattle.rules_judge.specs.Tables.{form_of, tables_page}
 use Rattle.rules_judge.proofs.Below.{Below, at_below}
 use Rattle.tags_values.specs.Codes.{range_code, form_code, range_amount, textual, low_at, high_at, amount_for, rule_for, code_of, amount_of, codes_page}
@@ -64,7 +64,7 @@ record Read (n : Signed) (o : Option ℤ) : Type 0 where
   is : o ≡ some whole
   held : n ≡ signed_of whole
 
-module _ (a : ℕ) (v : List ℕ) (h : a ≤ 10) (e : textual a ≡ false) {q : Number} (r : q ≡ number_of (number v)) where
+module _ (a : ℕ) (v : List ℕ) (h : a ≤ 10) (e : textual a ≡ false) {q : std.Option Signed} (r : q ≡ number_of (number v)) where
   code_by : code_of a v ≡ range_code (low_at a) (high_at a) (number v)
   unfolding code_of form_code
   code_by = rw (range_for a h e)
@@ -73,31 +73,31 @@ module _ (a : ℕ) (v : List ℕ) (h : a ≤ 10) (e : textual a ≡ false) {q : 
   unfolding amount_of
   amount_by = rw e
 
-  none_read : q ≡ Not → number v ≡ none
+  none_read : q ≡ None → number v ≡ none
   unfolding number_of
   none_read f = by (number v) (sym f ∙ r)
     where
-      by : (o : Option ℤ) → Not ≡ number_of o → o ≡ none
+      by : (o : Option ℤ) → None ≡ number_of o → o ≡ none
       by none z = refl
       by (some x) z = impossible (cc)
 
-  read_some : {n : Signed} → q ≡ Is n → Read n (number v)
+  read_some : {n : Signed} → q ≡ Some n → Read n (number v)
   unfolding number_of
   read_some {n} f = by (number v) (sym f ∙ r)
     where
-      by : (o : Option ℤ) → Is n ≡ number_of o → Read n o
+      by : (o : Option ℤ) → Some n ≡ number_of o → Read n o
       by none z = impossible (cc)
       by (some x) z = let g : n ≡ signed_of x = cc in record { whole = x; is = refl; held = g }
 
-  pub no_number : q ≡ Not → 9 ≡ code_of a v
+  pub no_number : q ≡ None → 9 ≡ code_of a v
   unfolding range_code
   no_number f = sym (code_by ∙ rw (none_read f))
 
-  pub no_amount : {x : ℕ} → q ≡ Not → x ≡ amount_for a → x ≡ amount_of a v
+  pub no_amount : {x : ℕ} → q ≡ None → x ≡ amount_for a → x ≡ amount_of a v
   unfolding range_amount
   no_amount f y = y ∙ sym (amount_by ∙ rw (none_read f))
 
-  module _ {n : Signed} {t : Bool} (f : q ≡ Is n) (w : Judges n (within (low_at a) (high_at a)) t) where
+  module _ {n : Signed} {t : Bool} (f : q ≡ Some n) (w : Judges n (within (low_at a) (high_at a)) t) where
     judged : within (low_at a) (high_at a) (read_some f).whole ≡ t
     judged = sym (w.of (read_some f).whole (read_some f).held)
 

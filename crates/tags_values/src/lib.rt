@@ -8,7 +8,7 @@ ghost use Rattle.numbers.specs.Held.{Judges};
 ghost use Rattle.tags_values.specs.Codes.{textual, low_at, high_at, amount_for, code_of, amount_of};
 
 use formatting::is_formatting;
-use numbers::{Number, Signed, read_number};
+use numbers::{Signed, read_number};
 use scan::same;
 use terms::{MOST_DOWN, MOST_SIGNED, MOST_SPACE, MOST_TEXT};
 
@@ -30,31 +30,28 @@ const SIZE: u8 = 9;
 const FORMATTING: u8 = 10;
 
 // What stands for a number that is missing; but for an offset's, the lower end of its range.
+#[tactic(auto, unfolding(crate::specs::Codes::amount_for))]
 pub fn amount_for(a: u8) -> u64
     ensures value { result ≡ amount_for a }
     ensures bounds { result ≤ 1 }
 {
-    if a == REPLICATION {
-        return 1;
+    match a {
+        REPLICATION | SIZE => 1,
+        _ => 0,
     }
-    if a == SIZE {
-        return 1;
-    }
-    0
 }
 
 // The upper end of its range.
+#[tactic(auto, unfolding(crate::specs::Codes::high_at))]
 fn highest(a: u8) -> u64
     ensures a_value { high_at a ≡ pos result }
     ensures bounds { result ≤ 2147483647 }
 {
-    if a < 6 {
-        return MOST_SPACE;
+    match a {
+        0..=5 => MOST_SPACE,
+        SIZE => MOST_TEXT,
+        _ => MOST_SIGNED,
     }
-    if a == SIZE {
-        return MOST_TEXT;
-    }
-    MOST_SIGNED
 }
 
 // Does the number lie in the attribute's range?
@@ -73,17 +70,15 @@ fn is_in_range(n: Signed, a: u8) -> bool
 fn good_code(negative: bool) -> u8
     ensures { result ≡ cond negative 2 1 }
 {
-    if negative {
-        return 2;
-    }
-    1
+    if negative { 2 } else { 1 }
 }
 
 // Must the value be a text, and no number?
+#[tactic(auto, unfolding(crate::specs::Codes::textual))]
 fn is_textual(a: u8) -> bool
     ensures { result ≡ textual a }
 {
-    (a < FIRST_NUMBER) | (a == FORMATTING)
+    a < FIRST_NUMBER || a == FORMATTING
 }
 
 // A value that must be a number.
@@ -91,21 +86,22 @@ fn number_held(value: &[u8], a: u8) -> Held
     requires { (1 ≤ a) × (a ≤ 10) × (textual a ≡ false) }
     ensures { (result.code ≡ code_of a value.now) × (result.amount ≡ amount_of a value.now) }
 {
-    let Number::Is(n) = read_number(value) else {
+    let Some(n) = read_number(value) else {
         return Held {
             code: 9,
             amount: amount_for(a),
         };
     };
     if is_in_range(n, a) {
-        return Held {
+        Held {
             code: good_code(n.negative),
             amount: n.magnitude,
-        };
-    }
-    Held {
-        code: 10,
-        amount: amount_for(a),
+        }
+    } else {
+        Held {
+            code: 10,
+            amount: amount_for(a),
+        }
     }
 }
 
@@ -114,13 +110,11 @@ fn is_text(value: &[u8], a: u8) -> bool
     requires { (1 ≤ a) × (a ≤ 10) × (textual a ≡ true) }
     ensures { code_of a value.now ≡ cond result 1 87 }
 {
-    if a == 1 {
-        return same(value, b"http://www.w3.org/2001/XMLSchema-instance");
+    match a {
+        1 => same(value, b"http://www.w3.org/2001/XMLSchema-instance"),
+        2 => same(value, b"http://openlcb.org/schema/cdi/1/3/cdi.xsd"),
+        _ => is_formatting(value),
     }
-    if a == 2 {
-        return same(value, b"http://openlcb.org/schema/cdi/1/3/cdi.xsd");
-    }
-    is_formatting(value)
 }
 
 // A value that must be a text.
@@ -128,11 +122,8 @@ fn text_held(value: &[u8], a: u8) -> Held
     requires { (1 ≤ a) × (a ≤ 10) × (textual a ≡ true) }
     ensures { (result.code ≡ code_of a value.now) × (result.amount ≡ amount_of a value.now) }
 {
-    if is_text(value, a) {
-        return Held { code: 1, amount: 0 };
-    }
     Held {
-        code: 87,
+        code: if is_text(value, a) { 1 } else { 87 },
         amount: 0,
     }
 }
@@ -143,7 +134,8 @@ pub fn hold(value: &[u8], a: u8) -> Held
     ensures { (result.code ≡ code_of a value.now) × (result.amount ≡ amount_of a value.now) }
 {
     if is_textual(a) {
-        return text_held(value, a);
+        text_held(value, a)
+    } else {
+        number_held(value, a)
     }
-    number_held(value, a)
 }
