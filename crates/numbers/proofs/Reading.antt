@@ -13,6 +13,8 @@ use lib.IntN.{ℤ, pos, neg_ℤ}
 use mir.Syntax.{w64}
 use mir.Val.{Fits}
 use lib.ListN.{length, take, drop, get_or, drop_of_length-le}
+use Rattle.std.specs.Prelude as std
+use Rattle.std.specs.Prelude.{Some, None}
 use Rattle.cdi.specs.Lists.{◌>>=◌, ◌or_else◌, is_empty, all, while, shorn, strip, begins, between}
 use Rattle.cdi.specs.Pieces.{blank, digit, decimal}
 use Rattle.cdi.specs.Numbers.{trimmed, digits, signed_digits, number}
@@ -26,8 +28,6 @@ use Rattle.scan.proofs.Tests.{lt_or_le, eq_or_ne}
 use Rattle.numbers.specs.Held.{held, size_of, nearest, signed_of, number_of, digits_of, one_more, minus_of}
 use Rattle.numbers.specs.Ends.{ended_by, is_sign, behind_sign, Starts}
 use Rattle.numbers.specs.declared.Signed.{Signed}
-use Rattle.numbers.specs.declared.Number.{Number}
-use Rattle.numbers.specs.declared.Number.TheVariants.{Is, Not}
 
 -- ── one digit more ──
 
@@ -99,7 +99,7 @@ start s e = record { so_far = 0; is = e; here = omega arith; value = refl; begun
 
 module _ {s : List ℕ} {i : ℕ} {n : Signed} (v : Read s i n) where
   -- digits, and only blanks behind them
-  shut : (i ≡ 0 → ⊥) → all blank (drop i s) ≡ true → Is n ≡ digits_of (digits (shorn blank s))
+  shut : (i ≡ 0 → ⊥) → all blank (drop i s) ≡ true → Some n ≡ digits_of (digits (shorn blank s))
   unfolding digits_of digits
   shut h e = rw (v.begun h, value_is, v.is)
     where
@@ -107,35 +107,36 @@ module _ {s : List ℕ} {i : ℕ} {n : Signed} (v : Read s i n) where
       value_is = unfold onward all decimal in v.value ∙ rw (shorn_all blank (drop i s) e)
 
   -- a byte behind them that is neither a digit nor followed by blanks alone
-  broken : onward v.so_far (drop i s) ≡ none → Not ≡ digits_of (digits (shorn blank s))
+  broken : onward v.so_far (drop i s) ≡ none → None ≡ digits_of (digits (shorn blank s))
   unfolding digits_of digits onward
   broken e = rw (v.value ∙ e) (by (is_empty (shorn blank s)))
     where
-      by : (t : Bool) → Not ≡ digits_of (cond t none none)
+      by : (t : Bool) → None ≡ digits_of (cond t none none)
       by true = refl
       by false = refl
 
-  none_begun : i ≡ 0 → all blank (drop i s) ≡ true → Not ≡ digits_of (digits (shorn blank s))
+  none_begun : i ≡ 0 → all blank (drop i s) ≡ true → None ≡ digits_of (digits (shorn blank s))
   unfolding digits_of digits is_empty
   none_begun z e = rw (shorn_all blank s (rw z at e))
 
-  pub all_read : length s ≤ i → 0 < i → Is n ≡ digits_of (digits (shorn blank s))
-  unfolding all
-  all_read h k = shut (λ z. omega arith) (rw (drop_of_length-le s h))
+  module _ {t : Bool} (h : length s ≤ i) (e : t ≡ eqb (length s) 0) where
+    pub all_read : t ≡ false → Some n ≡ digits_of (digits (shorn blank s))
+    unfolding all
+    all_read f = shut (λ z. eqb-false (length s) 0 (sym e ∙ f) (omega (arith, v.here))) (rw (drop_of_length-le s h))
 
-  pub none_read : length s ≤ i → i ≤ 0 → Not ≡ digits_of (digits (shorn blank s))
-  unfolding all
-  none_read h k = none_begun (omega arith) (rw (drop_of_length-le s h))
+    pub none_read : t ≡ true → None ≡ digits_of (digits (shorn blank s))
+    unfolding all
+    none_read f = none_begun (omega (arith, v.here, eqb-true (length s) 0 (sym e ∙ f))) (rw (drop_of_length-le s h))
 
   module _ {t : Bool} (h : i < length s) (e : t ≡ digit (get_or s i 0)) where
-    pub stopped : {r : Number} → t ≡ false → r ≡ ended_by s i n → r ≡ digits_of (digits (shorn blank s))
+    pub stopped : {r : std.Option Signed} → t ≡ false → r ≡ ended_by s i n → r ≡ digits_of (digits (shorn blank s))
     unfolding ended_by
     stopped f g = g ∙ by (all blank (drop i s)) refl (eqb i 0) refl
       where
         cut_off : all blank (drop i s) ≡ false → onward v.so_far (drop i s) ≡ none
         cut_off k = unfold onward all in rw (drop_next s i h, shorn_first blank (get_or s i 0) (drop (i + 1) s) (ap (all blank) (sym (drop_next s i h)) ∙ k), ← e, f)
 
-        by : (a : Bool) → all blank (drop i s) ≡ a → (z : Bool) → eqb i 0 ≡ z → cond (not z && a) (Is n) Not ≡ digits_of (digits (shorn blank s))
+        by : (a : Bool) → all blank (drop i s) ≡ a → (z : Bool) → eqb i 0 ≡ z → cond (not z && a) (Some n) None ≡ digits_of (digits (shorn blank s))
         by true k true z = none_begun (eqb-true i 0 z) k
         by true k false z = shut (eqb-false i 0 z) k
         by false k true z = broken (cut_off k)
@@ -188,12 +189,12 @@ unfolding digits_of number_of signed_of
 plain none = refl
 plain (some n) = refl
 
-no_digits : (minus : Bool) (o : Option ℕ) → digits_of o ≡ Not → Not ≡ number_of (o >>= λ n. some (cond minus (neg_ℤ (pos n)) (pos n)))
+no_digits : (minus : Bool) (o : Option ℕ) → digits_of o ≡ None → None ≡ number_of (o >>= λ n. some (cond minus (neg_ℤ (pos n)) (pos n)))
 unfolding digits_of number_of
 no_digits minus none e = refl
 no_digits minus (some n) e = cc
 
-some_digits : (o : Option ℕ) {m t : Signed} → digits_of o ≡ Is m → t ≡ minus_of m → Is t ≡ number_of (o >>= λ n. some (neg_ℤ (pos n)))
+some_digits : (o : Option ℕ) {m t : Signed} → digits_of o ≡ Some m → t ≡ minus_of m → Some t ≡ number_of (o >>= λ n. some (neg_ℤ (pos n)))
 unfolding digits_of number_of
 some_digits none e f = cc
 some_digits (some n) e f = cc (minus_held n)
@@ -260,19 +261,19 @@ number_is s {at} {minus} v = ap (λ l. signed_digits (shorn blank l)) (span_rest
     some_left : v.from < length s → Goal
     some_left h = rw (drop_next s v.from h) (signed_at (get_or s v.from 0) (drop (v.from + 1) s) (drop at s) (there true) (λ f. there false f ∙ drop_next s v.from h))
 
-module _ (s : List ℕ) {at : ℕ} {minus : Bool} (v : Starts s at minus) {r : Number} (d : r ≡ digits_of (digits (shorn blank (take (length s - at) (drop at s))))) where
+module _ (s : List ℕ) {at : ℕ} {minus : Bool} (v : Starts s at minus) {r : std.Option Signed} (d : r ≡ digits_of (digits (shorn blank (take (length s - at) (drop at s))))) where
   -- what the reader of digits said of the rest
   said : r ≡ digits_of (digits (shorn blank (drop at s)))
   said = d ∙ ap (λ l. digits_of (digits (shorn blank l))) (rest s at)
 
-  pub no_number : r ≡ Not → Not ≡ number_of (number s)
+  pub no_number : r ≡ None → None ≡ number_of (number s)
   no_number f = rw (number_is s v) (no_digits minus (digits (shorn blank (drop at s))) (sym said ∙ f))
 
-  module _ {m : Signed} (f : r ≡ Is m) where
-    pub negative : {k : Signed} → minus ≡ true → k ≡ minus_of m → Is k ≡ number_of (number s)
+  module _ {m : Signed} (f : r ≡ Some m) where
+    pub negative : {k : Signed} → minus ≡ true → k ≡ minus_of m → Some k ≡ number_of (number s)
     negative h i = rw (number_is s v, h) (some_digits (digits (shorn blank (drop at s))) (sym said ∙ f) i)
 
-    pub positive : minus ≡ false → Is m ≡ number_of (number s)
+    pub positive : minus ≡ false → Some m ≡ number_of (number s)
     positive h = rw (number_is s v, h) (sym f ∙ said ∙ plain (digits (shorn blank (drop at s))))
 
 pub ruleset signs = (no_number, negative, positive, rules)
@@ -280,16 +281,16 @@ pub ruleset signs = (no_number, negative, positive, rules)
 -- ── the parts of both ends ──
 
 module _ (s : List ℕ) (at : ℕ) where
-  pub none_before : (n : Signed) → at ≡ 0 → Not ≡ ended_by s at n
+  pub none_before : (n : Signed) → at ≡ 0 → None ≡ ended_by s at n
   unfolding ended_by
   none_before n e = rw e
 
   module _ (n : Signed) {r : ℕ} (v : Span blank s at r) (h : at ≡ 0 → ⊥) where
-    pub only_blanks : r ≡ length s → Is n ≡ ended_by s at n
+    pub only_blanks : r ≡ length s → Some n ≡ ended_by s at n
     unfolding ended_by
     only_blanks e = rw (ne_eqb at 0 h, ← span_all v, eq-eqb r (length s) e)
 
-    pub more_behind : (r ≡ length s → ⊥) → Not ≡ ended_by s at n
+    pub more_behind : (r ≡ length s → ⊥) → None ≡ ended_by s at n
     unfolding ended_by
     more_behind e = rw (ne_eqb at 0 h, ← span_all v, ne_eqb r (length s) e)
 
@@ -297,13 +298,10 @@ module _ (s : List ℕ) (at : ℕ) where
   unfolding behind_sign is_sign
   sign_past h = rw (← nothing_there s at h)
 
-  pub sign_minus : get_or s at 0 ≡ 45 → at + 1 ≡ behind_sign s at
+  pub some_sign : (get_or s at 0 ≡ 45) ⊎ (get_or s at 0 ≡ 43) → at + 1 ≡ behind_sign s at
   unfolding behind_sign is_sign
-  sign_minus e = rw e
-
-  pub sign_plus : get_or s at 0 ≡ 43 → at + 1 ≡ behind_sign s at
-  unfolding behind_sign is_sign
-  sign_plus e = rw e
+  some_sign (inl e) = rw e
+  some_sign (inr e) = rw e
 
   pub no_sign : (get_or s at 0 ≡ 45 → ⊥) → (get_or s at 0 ≡ 43 → ⊥) → at ≡ behind_sign s at
   unfolding behind_sign is_sign
@@ -331,4 +329,4 @@ begins_other s {from} v e f = record { from = from; blanks = v; sign = e; negati
 
 pub ruleset starts = (begins_digit, begins_other, rules)
 
-pub ruleset both_ends = (none_before, only_blanks, more_behind, sign_past, sign_minus, sign_plus, no_sign, rules)
+pub ruleset both_ends = (none_before, only_blanks, more_behind, rules)

@@ -1,15 +1,13 @@
 -- Both ends of a number as the code meets them: the sign in front, the blanks behind.
-use Rattle.std.specs.Prelude.{◌≡◌, List, [], ◌∷◌, Bool, cond, not, ◌&&◌, ◌||◌, ℕ, ◌+◌, eqb, drop, get_or}
+use Rattle.std.specs.Prelude.{◌≡◌, List, [], ◌∷◌, Bool, cond, Option, Some, None, not, ◌&&◌, ◌||◌, ℕ, ◌+◌, eqb, drop, get_or}
 use Rattle.cdi.specs.Lists.{all, begins}
 use Rattle.cdi.specs.Pieces.{blank}
 use Rattle.scan.specs.Spans.{Span}
 use Rattle.numbers.specs.declared.Signed.{Signed}
-use Rattle.numbers.specs.declared.Number.{Number}
-use Rattle.numbers.specs.declared.Number.TheVariants.{Is, Not}
 
 -- the number n, where digits stand before the place and only blanks from there on
-unfoldable pub ended_by : List ℕ → ℕ → Signed → Number
-ended_by s at n = cond (not (eqb at 0) && all blank (drop at s)) (Is n) Not
+unfoldable pub ended_by : List ℕ → ℕ → Signed → Option Signed
+ended_by s at n = cond (not (eqb at 0) && all blank (drop at s)) (Some n) None
 
 unfoldable pub is_sign : ℕ → Bool
 is_sign b = eqb b 45 || eqb b 43

@@ -1,10 +1,9 @@
 -- Numbers as the code holds them, and what its answers mean.
+use Rattle.std.specs.Prelude as std
 use Rattle.std.specs.Prelude.{◌≡◌, Bool, true, false, cond, not, ◌||◌, ℕ, suc, ◌+◌, ◌*◌, ◌-◌, ◌^◌, eqb, ltb, ℤ, pos, negsuc}
 use Rattle.std.proofs.Math.Option.{Option, none, some}
 use Rattle.cdi.specs.Values.{with_sign}
 use Rattle.numbers.specs.declared.Signed.{Signed}
-use Rattle.numbers.specs.declared.Number.{Number}
-use Rattle.numbers.specs.declared.Number.TheVariants as number
 use Rattle.numbers.specs.declared.Range.{Range}
 
 -- a sign and a magnitude, which is large where 64 bits don't hold it
@@ -20,14 +19,14 @@ signed_of (pos n) = held false n
 signed_of (negsuc n) = held true (suc n)
 
 -- what the reader answers
-unfoldable pub number_of : Option ℤ → Number
-number_of none = number.Not
-number_of (some z) = number.Is (signed_of z)
+unfoldable pub number_of : Option ℤ → std.Option Signed
+number_of none = std.None
+number_of (some z) = std.Some (signed_of z)
 
 -- what it answers of digits without a sign
-unfoldable pub digits_of : Option ℕ → Number
-digits_of none = number.Not
-digits_of (some n) = number.Is (held false n)
+unfoldable pub digits_of : Option ℕ → std.Option Signed
+digits_of none = std.None
+digits_of (some n) = std.Some (held false n)
 
 -- one digit more
 unfoldable pub one_more : Signed → ℕ → Signed

@@ -20,12 +20,6 @@ pub struct Signed {
     pub large: bool,
 }
 
-#[derive(Clone, Copy)]
-pub enum Number {
-    Is(Signed),
-    Not,
-}
-
 // The numbers from a lower bound, which may be negative, to an upper one.
 #[derive(Clone, Copy)]
 pub struct Range {
@@ -53,10 +47,7 @@ pub fn with_sign(negative: bool, magnitude: u64) -> Signed
 fn value_of(b: u8) -> u64
     ensures { (result ≡ b - 48) × (result ≤ 255) }
 {
-    if b < 48 {
-        return 0;
-    }
-    (b - 48) as u64
+    u64::from(b.saturating_sub(b'0'))
 }
 
 // The number with one digit more.
@@ -78,37 +69,29 @@ fn one_more(n: Signed, b: u8) -> Signed
 }
 
 // The number of the digits before a place, where there are any and only blanks stand from there on.
-fn ended(s: &[u8], at: usize, n: Signed) -> Number
+fn ended(s: &[u8], at: usize, n: Signed) -> Option<Signed>
     requires { at ≤ length s.now }
     ensures { result ≡ ended_by s.now at n }
 {
-    if at == 0 {
-        return Number::Not;
+    if at != 0 && blanks(s, at) == s.len() {
+        Some(n)
+    } else {
+        None
     }
-    if blanks(s, at) == s.len() {
-        return Number::Is(n);
-    }
-    Number::Not
 }
 
 // The number without a sign that these bytes are, blanks at the end aside.
-fn digits(s: &[u8]) -> Number
+fn digits(s: &[u8]) -> Option<Signed>
     ensures { result ≡ digits_of (digits_in (shorn blank s.now)) }
 {
     let mut n = with_sign(false, 0);
-    let mut i = 0;
-    while i < s.len() {
-        if is_digit(s[i]) {
-            n = one_more(n, s[i]);
-            i += 1;
-        } else {
+    for (i, b) in s.iter().enumerate() {
+        if !is_digit(*b) {
             return ended(s, i, n);
         }
+        n = one_more(n, *b);
     }
-    if 0 < i {
-        return Number::Is(n);
-    }
-    Number::Not
+    if s.is_empty() { None } else { Some(n) }
 }
 
 // The number with a minus; minus zero is zero.
@@ -128,16 +111,10 @@ fn behind_sign(s: &[u8], at: usize) -> usize
     ensures value { result ≡ behind_sign s.now at }
     ensures bounds { result ≤ length s.now }
 {
-    if s.len() <= at {
-        return at;
+    match s.get(at) {
+        Some(b'-' | b'+') => at + 1,
+        _ => at,
     }
-    if s[at] == b'-' {
-        return at + 1;
-    }
-    if s[at] == b'+' {
-        return at + 1;
-    }
-    at
 }
 
 // Where the digits of a number begin, and whether a minus stands before them.
@@ -166,16 +143,10 @@ fn start_of(value: &[u8]) -> Start
 }
 
 // The number that these bytes are, if they are one.
-pub fn read_number(value: &[u8]) -> Number
+pub fn read_number(value: &[u8]) -> Option<Signed>
     ensures { result ≡ number_of (number value.now) }
 {
     let start = start_of(value);
-    let at = start.at;
-    let Number::Is(n) = digits(&value[at..]) else {
-        return Number::Not;
-    };
-    if start.minus {
-        return Number::Is(minus(n));
-    }
-    Number::Is(n)
+    let n = digits(&value[start.at..])?;
+    Some(if start.minus { minus(n) } else { n })
 }

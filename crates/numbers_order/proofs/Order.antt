@@ -1,58 +1,18 @@
--- Numbers compared, and what a comparison says of the number that was read, however large that is.
+-- Numbers compared by sign and magnitude.
 use mathlib.Core.Path.{◌≡◌, refl, sym, ◌∙◌}
-use mathlib.Core.Bool.{Bool, true, false, cond}
+use mathlib.Core.Bool.{Bool, true, false}
 use mathlib.Core.Logic.{⊎_elim}
-use Prim.Native.Nat.{ℕ, zero, suc, ◌-◌, ◌^◌, ◌≤◌}
+use Prim.Native.Nat.{ℕ, zero, suc}
 use native.Mathlib.Omega.{arith}
 use borrow.Author.Rules.{rules}
 use borrow.Author.Tests.{le-leb, lt-leb, eqb-true, eqb-false, ne_eqb}
 use lib.Dec.{eqb, leb}
 use lib.IntN.{pos, neg_ℤ}
 use lib.Signed.{le_z}
-use mir.Syntax.{w64}
-use mir.Val.{Fits}
 use Rattle.scan.proofs.Tests.{lt_or_le}
 use Rattle.cdi.specs.Values.{with_sign}
 use Rattle.numbers.specs.Held.{size_of, nearest}
 use Rattle.numbers.specs.declared.Signed.{Signed}
-
--- ── magnitudes ──
-
-pub large_not_nought : (n : Signed) → n.large ≡ true → false ≡ eqb (size_of n) 0
-unfolding size_of
-large_not_nought n e = rw e
-
-pub small_nought : (n : Signed) → n.large ≡ false → eqb n.magnitude 0 ≡ eqb (size_of n) 0
-unfolding size_of
-small_nought n e = rw e
-
-size_bound : (n : Signed) → Fits w64 n.magnitude → size_of n ≤ 2 ^ 64
-unfolding size_of
-size_bound n h = by n.large
-  where
-    by : (t : Bool) → cond t (2 ^ 64) n.magnitude ≤ 2 ^ 64
-    by true = omega arith
-    by false = omega (arith, h.fits)
-
-size_large : (n : Signed) → n.large ≡ true → size_of n ≡ 2 ^ 64
-unfolding size_of
-size_large n e = rw e
-
-size_small : (n : Signed) → n.large ≡ false → size_of n ≡ n.magnitude
-unfolding size_of
-size_small n e = rw e
-
-module _ (a b : Signed) where
-  pub second_large : Fits w64 a.magnitude → b.large ≡ true → true ≡ leb (size_of a) (size_of b)
-  second_large h e = sym (le-leb (size_of a) (size_of b) (omega (arith, size_bound a h, size_large b e)))
-
-  pub first_large : Fits w64 b.magnitude → b.large ≡ false → a.large ≡ true → false ≡ leb (size_of a) (size_of b)
-  first_large h e f = sym (lt-leb (size_of a) (size_of b) (omega (arith, h.fits, size_small b e, size_large a f)))
-
-  pub none_large : b.large ≡ false → a.large ≡ false → leb a.magnitude b.magnitude ≡ leb (size_of a) (size_of b)
-  none_large e f = rw (size_small a f, size_small b e)
-
-pub ruleset sizes = (large_not_nought, small_nought, second_large, first_large, none_large, rules)
 
 -- ── order ──
 
