@@ -127,16 +127,19 @@ pub record Walking (s : List ℕ) (p : Pieces) (P : ℕ → Type 0) : Type 0 whe
   pub is : P p.at
   pub content : p.content.now ≡ s
 
-module _ {s : List ℕ} {p q : Pieces} {x : Placed} (e : p.content.now ≡ s) (g : Came p x q) where
-  pub walk_stands : Stands s p.at x.cut
-  walk_stands = rw e at g.stands
+module _ {s : List ℕ} {p q : Pieces} {P : ℕ → Type 0} (w : Walking s p P) where
+  module _ {x : Placed} (g : Came p x q) where
+    pub walk_here : P x.place
+    walk_here = subst P (sym g.place) w.is
 
-  pub walk_on : {P : ℕ → Type 0} → P x.cut.end → Walking s q P
-  walk_on {P} h = record { is = subst P (sym g.at) h; content = g.content ∙ e }
+    pub walk_stands : Stands s x.place x.cut
+    walk_stands = rw (g.place, ← w.content) g.stands
 
-module _ {s : List ℕ} {p q : Pieces} (e : p.content.now ≡ s) (g : Over p q) where
-  pub walk_out : length s ≤ p.at
-  walk_out = rw e at g.out
+    pub walk_on : {Q : ℕ → Type 0} → Q x.cut.end → Walking s q Q
+    walk_on {Q} h = record { is = subst Q (sym g.at) h; content = g.content ∙ w.content }
+
+  pub walk_out : Over p q → length s ≤ p.at
+  walk_out g = rw w.content at g.out
 
 -- ── behind an end tag ──
 
@@ -251,9 +254,6 @@ module _ {s : List ℕ} {at i : ℕ} (w : Looks s at i) where
   unfolding first_child tree top
   looked h = nowhere (w.is ∙ ap (λ (l : List Nodes). first_child (top l)) (nothing_ahead s i h))
 
-  pub look_start : {x : Placed} → x.place ≡ i → Stands s i x.cut → x.cut.kind ≡ Start → NextChild s at (Some x)
-  look_start {x} e v k = there (rw e v) k (rw e w.is) (rw e w.deep) (rw e w.low)
-
   module _ {c : Cut} (v : Stands s i c) where
     pub look_finish : c.kind ≡ Finish → NextChild s at None
     unfolding first_child tree top piece_of grow
@@ -299,6 +299,9 @@ module _ {s : List ℕ} {at i : ℕ} (w : Looks s at i) where
         by Text e = look_text e
         by Malformed e = look_malformed e
         by Unsupported e = look_unsupported e
+
+pub look_start : {s : List ℕ} {at : ℕ} {x : Placed} → Looks s at x.place → Stands s x.place x.cut → x.cut.kind ≡ Start → NextChild s at (Some x)
+look_start w v k = there v k w.is w.deep w.low
 
 -- ── a child by its name ──
 
