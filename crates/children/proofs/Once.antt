@@ -17,8 +17,9 @@ use Rattle.pieces.proofs.Once.{piece_at_once}
 use Rattle.levels.specs.Ahead.{here}
 use Rattle.children.specs.Siblings.{ahead, Behind, Passed, first_child, NextChild, nodes_in, Named}
 use Rattle.children.specs.Siblings.NextChild.{there, nowhere}
-use Rattle.children.specs.declared.Child.{Child}
-use Rattle.children.specs.declared.Child.TheVariants.{At, Nothing}
+use Rattle.children.specs.declared.Placed.{Placed}
+use Rattle.std.specs.Prelude.{Some, None}
+use Rattle.std.specs.Prelude.{Option as Maybe}
 use Rattle.children.specs.declared.Part.{Part}
 
 pub behind_once : {s : List ℕ} {at q r : ℕ} → Behind s at q → Behind s at r → ahead s q ≡ ahead s r
@@ -43,7 +44,7 @@ place_of (other p c f) = none
 
 grown : (p : ℕ) (n : List ℕ) (a : List Attribute) (short : Bool) (fs : List Nodes) → 2 ≤ length (grow p (start n a short) fs)
     → place_of (first_child (top (grow p (start n a short) fs))) ≡ some p
-unfolding grow top first_child place_of length
+unfolding grow top first_child place_of
 grown p n a short [] h = absurd (omega arith)
 grown p n a true (f ∷ fs) h = refl
 grown p n a false (f ∷ []) h = absurd (omega arith)
@@ -56,12 +57,18 @@ stands_at {s} {p} {c} v e h = rw (v.is, e) (grown p _ _ c.short _ (rw (v.is, e) 
 same_place : {p q : ℕ} → some p ≡ some q → p ≡ q
 same_place e = cc
 
-pub next_child_once : {s : List ℕ} {at : ℕ} (q r : Child) → NextChild s at q → NextChild s at r → q ≡ r
+abbrev child : ℕ → Cut → Placed
+child p t = record { place = p; cut = t }
+
+same_child : {c d : Placed} → c.place ≡ d.place → c.cut ≡ d.cut → c ≡ d
+same_child {c} {d} x y = ap (λ p. child p c.cut) x ∙ ap (child d.place) y
+
+pub next_child_once : {s : List ℕ} {at : ℕ} (q r : Maybe Placed) → NextChild s at q → NextChild s at r → q ≡ r
 unfolding place_of
-next_child_once {s} (At p c) (At o d) (there v k e h l) (there w m f i j) =
-    let x : p ≡ o = same_place (sym (stands_at v k h) ∙ ap place_of (sym e ∙ f) ∙ stands_at w m i) in
-    let y : c ≡ d = piece_at_once v (rw (← x) at w) in
-    cc
-next_child_once (At p c) Nothing (there v k e h l) (nowhere f) = let z : some p ≡ none = sym (stands_at v k h) ∙ ap place_of (sym e ∙ f) in impossible (cc)
-next_child_once Nothing (At p c) (nowhere f) (there v k e h l) = let z : some p ≡ none = sym (stands_at v k h) ∙ ap place_of (sym e ∙ f) in impossible (cc)
-next_child_once Nothing Nothing (nowhere e) (nowhere f) = refl
+next_child_once {s} (Some c) (Some d) (there v k e h l) (there w m f i j) =
+    let x : c.place ≡ d.place = same_place (sym (stands_at v k h) ∙ ap place_of (sym e ∙ f) ∙ stands_at w m i) in
+    let y : c.cut ≡ d.cut = piece_at_once v (rw (← x) at w) in
+    ap Some (same_child x y)
+next_child_once (Some c) None (there v k e h l) (nowhere f) = let z : some c.place ≡ none = sym (stands_at v k h) ∙ ap place_of (sym e ∙ f) in impossible (cc)
+next_child_once None (Some c) (nowhere f) (there v k e h l) = let z : some c.place ≡ none = sym (stands_at v k h) ∙ ap place_of (sym e ∙ f) in impossible (cc)
+next_child_once None None (nowhere e) (nowhere f) = refl

@@ -1,5 +1,5 @@
 -- How each piece changes what is to come at the levels that are open, and the ways through the readers of children.
-use mathlib.Core.Path.{◌≡◌, refl, sym, ap, ◌∙◌}
+use mathlib.Core.Path.{◌≡◌, refl, sym, ap, subst, ◌∙◌}
 use mathlib.Core.List.{List, [], ◌∷◌, tail}
 use mathlib.Core.Bool.{Bool, true, false, cond}
 use mathlib.Core.Option.{some}
@@ -22,12 +22,15 @@ use Rattle.levels.specs.Ahead.{from, name_in, attributes_in, here}
 use Rattle.levels.proofs.Levels.{split, short_levels, start_levels}
 use Rattle.children.specs.declared.Turn.{Turn}
 use Rattle.children.specs.declared.Turn.TheVariants.{Opens, Closes, Stays}
-use Rattle.children.specs.declared.Child.{Child}
-use Rattle.children.specs.declared.Child.TheVariants.{At, Nothing}
+use Rattle.children.specs.declared.Placed.{Placed}
 use Rattle.children.specs.declared.Part.{Part}
+use Rattle.children.specs.declared.Pieces.{Pieces}
+use Rattle.children.specs.Walk.{Came, Over}
 use Rattle.children.specs.declared.Part.TheVariants.{Missing, Empty, From}
 use Rattle.children.specs.Siblings.{ahead, turn_of, Behind, Passed, first_child, NextChild, part_of, nodes_in, Inside, Named}
 use Rattle.children.specs.Siblings.NextChild.{there, nowhere}
+use Rattle.std.specs.Prelude.{Some, None}
+use Rattle.std.specs.Prelude.{Option as Maybe}
 
 -- ── lists ──
 
@@ -117,30 +120,51 @@ pub nothing_ahead : (s : List ℕ) (i : ℕ) → length s ≤ i → ahead s i �
 unfolding pieces levels
 nothing_ahead s i h = rw (drop_of_length-le s h)
 
+-- ── a walk over the pieces ──
+
+-- what is said of the place where the walk over the content stands
+pub record Walking (s : List ℕ) (p : Pieces) (P : ℕ → Type 0) : Type 0 where
+  pub is : P p.at
+  pub content : p.content.now ≡ s
+
+module _ {s : List ℕ} {p q : Pieces} {P : ℕ → Type 0} (w : Walking s p P) where
+  module _ {x : Placed} (g : Came p x q) where
+    pub walk_here : P x.place
+    walk_here = subst P (sym g.place) w.is
+
+    pub walk_stands : Stands s x.place x.cut
+    walk_stands = rw (g.place, ← w.content) g.stands
+
+    pub walk_on : {Q : ℕ → Type 0} → Q x.cut.end → Walking s q Q
+    walk_on {Q} h = record { is = subst Q (sym g.at) h; content = g.content ∙ w.content }
+
+  pub walk_out : Over p q → length s ≤ p.at
+  walk_out g = rw w.content at g.out
+
 -- ── behind an end tag ──
 
 -- `d` levels are open below the level that is to be closed
-pub record Seeking (s : List ℕ) (at i d : ℕ) : Type 0 where
+pub record Seeks (s : List ℕ) (at i d : ℕ) : Type 0 where
   pub is : tail (ahead s at) ≡ drop d (tail (ahead s i))
   pub deep : d < length (tail (ahead s i))
   pub low : at ≤ i
   pub high : i ≤ length s
   pub few : d ≤ i
 
-pub seek : (s : List ℕ) (at : ℕ) → at ≤ length s → 2 ≤ length (ahead s at) → Seeking s at at 0
+pub seek : (s : List ℕ) (at : ℕ) → at ≤ length s → 2 ≤ length (ahead s at) → Seeks s at at 0
 seek s at h l = record { is = refl; deep = omega (arith, length_tail (ahead s at)); low = omega arith; high = h; few = omega arith }
 
-module _ {s : List ℕ} {at i d : ℕ} (w : Seeking s at i d) where
-  pub sought : length s ≤ i → Behind s at i
+module _ {s : List ℕ} {at i d : ℕ} (w : Seeks s at i d) where
+  pub sought : {r : ℕ} → length s ≤ i → Behind s at r
   sought h = absurd (omega (arith, w.deep, ap (λ (l : List Nodes). length (tail l)) (nothing_ahead s i h)))
 
   module _ {c : Cut} (v : Stands s i c) {t : Turn} (e : t ≡ turn_of c.kind c.short) where
-    pub seek_on : t ≡ Stays → Seeking s at c.end d
+    pub seek_on : t ≡ Stays → Seeks s at c.end d
     seek_on q =
         let k = stays v (sym e ∙ q) in
         record { is = w.is ∙ ap (drop d) k; deep = rw k at w.deep; low = omega (arith, w.low, v.cut.low); high = v.cut.high; few = omega (arith, w.few, v.cut.low) }
 
-    pub seek_in : t ≡ Opens → Seeking s at c.end (d + 1)
+    pub seek_in : t ≡ Opens → Seeks s at c.end (d + 1)
     seek_in q =
         let k = opens v (sym e ∙ q) in
         record {
@@ -151,7 +175,7 @@ module _ {s : List ℕ} {at i d : ℕ} (w : Seeking s at i d) where
           few = omega (arith, w.few, v.cut.low);
         }
 
-    pub seek_out : t ≡ Closes → (d ≡ 0 → ⊥) → Seeking s at c.end (d - 1)
+    pub seek_out : t ≡ Closes → (d ≡ 0 → ⊥) → Seeks s at c.end (d - 1)
     seek_out q z =
         let k = closes v (sym e ∙ q) in
         let m : d ≡ suc (d - 1) = omega arith in
@@ -173,8 +197,6 @@ module _ {s : List ℕ} {at i d : ℕ} (w : Seeking s at i d) where
 
     pub shorter : length s - c.end < length s - i
     shorter = omega (arith, v.cut.low, v.cut.high)
-
-pub ruleset seeking = (seek, sought, seek_on, seek_in, seek_out, seek_end, shorter, rules)
 
 -- ── behind an element ──
 
@@ -218,29 +240,26 @@ pub ruleset passing = (passed_short, passed_long, long_deep, tag_high, rules)
 
 -- ── the next child ──
 
-pub record Looking (s : List ℕ) (at i : ℕ) : Type 0 where
+pub record Looks (s : List ℕ) (at i : ℕ) : Type 0 where
   pub is : first_child (here s at) ≡ first_child (here s i)
   pub deep : 2 ≤ length (ahead s i)
   pub low : at ≤ i
   pub high : i ≤ length s
 
-pub look : (s : List ℕ) (at : ℕ) → at ≤ length s → 2 ≤ length (ahead s at) → Looking s at at
+pub look : (s : List ℕ) (at : ℕ) → at ≤ length s → 2 ≤ length (ahead s at) → Looks s at at
 look s at h l = record { is = refl; deep = l; low = omega arith; high = h }
 
-module _ {s : List ℕ} {at i : ℕ} (w : Looking s at i) where
-  pub looked : length s ≤ i → NextChild s at Nothing
+module _ {s : List ℕ} {at i : ℕ} (w : Looks s at i) where
+  pub looked : length s ≤ i → NextChild s at None
   unfolding first_child tree top
   looked h = nowhere (w.is ∙ ap (λ (l : List Nodes). first_child (top l)) (nothing_ahead s i h))
 
   module _ {c : Cut} (v : Stands s i c) where
-    pub look_start : c.kind ≡ Start → NextChild s at (At i c)
-    look_start k = there v k w.is w.deep w.low
-
-    pub look_finish : c.kind ≡ Finish → NextChild s at Nothing
+    pub look_finish : c.kind ≡ Finish → NextChild s at None
     unfolding first_child tree top piece_of grow
     look_finish k = nowhere (w.is ∙ ap (λ (l : List Nodes). first_child (top l)) (grown_by v k))
 
-    on : turn_of c.kind c.short ≡ Stays → first_child (here s i) ≡ first_child (here s c.end) → Looking s at c.end
+    on : turn_of c.kind c.short ≡ Stays → first_child (here s i) ≡ first_child (here s c.end) → Looks s at c.end
     on q e =
         record {
           is = w.is ∙ e;
@@ -249,30 +268,40 @@ module _ {s : List ℕ} {at i : ℕ} (w : Looking s at i) where
           high = v.cut.high;
         }
 
-    pub look_remark : c.kind ≡ Remark → Looking s at c.end
+    look_remark : c.kind ≡ Remark → Looks s at c.end
     unfolding first_child tree top piece_of grow turn_of
     look_remark k = on (rw k) (ap (λ (l : List Nodes). first_child (top l)) (grown_by v k))
 
-    pub look_refer : c.kind ≡ Refer → Looking s at c.end
+    look_refer : c.kind ≡ Refer → Looks s at c.end
     unfolding first_child tree top piece_of grow turn_of
     look_refer k = on (rw k) (ap (λ (l : List Nodes). first_child (top l)) (grown_by v k))
 
-    pub look_text : c.kind ≡ Text → Looking s at c.end
+    look_text : c.kind ≡ Text → Looks s at c.end
     unfolding first_child tree top piece_of grow turn_of
     look_text k = on (rw k) (ap (λ (l : List Nodes). first_child (top l)) (grown_by v k))
 
-    pub look_malformed : c.kind ≡ Malformed → Looking s at c.end
+    look_malformed : c.kind ≡ Malformed → Looks s at c.end
     unfolding first_child tree top piece_of grow turn_of
     look_malformed k = on (rw k) (ap (λ (l : List Nodes). first_child (top l)) (grown_by v k))
 
-    pub look_unsupported : c.kind ≡ Unsupported → Looking s at c.end
+    look_unsupported : c.kind ≡ Unsupported → Looks s at c.end
     unfolding first_child tree top piece_of grow turn_of
     look_unsupported k = on (rw k) (ap (λ (l : List Nodes). first_child (top l)) (grown_by v k))
 
-    pub look_less : length s - c.end < length s - i
-    look_less = omega (arith, v.cut.low, v.cut.high)
+    pub look_on : (c.kind ≡ Start → ⊥) → (c.kind ≡ Finish → ⊥) → Looks s at c.end
+    look_on a b = by c.kind refl
+      where
+        by : (k : Kind) → c.kind ≡ k → Looks s at c.end
+        by Start e = absurd (a e)
+        by Finish e = absurd (b e)
+        by Remark e = look_remark e
+        by Refer e = look_refer e
+        by Text e = look_text e
+        by Malformed e = look_malformed e
+        by Unsupported e = look_unsupported e
 
-pub ruleset looking = (look, looked, look_start, look_finish, look_remark, look_refer, look_text, look_malformed, look_unsupported, look_less, rules)
+pub look_start : {s : List ℕ} {at : ℕ} {x : Placed} → Looks s at x.place → Stands s x.place x.cut → x.cut.kind ≡ Start → NextChild s at (Some x)
+look_start w v k = there v k w.is w.deep w.low
 
 -- ── a child by its name ──
 
@@ -343,50 +372,49 @@ record IsChild (s : List ℕ) (i p : ℕ) (c : Cut) : Type 0 where
   deep : 2 ≤ length (ahead s p)
   low : i ≤ p
 
-is_child : {s : List ℕ} {i : ℕ} (r : Child) → NextChild s i r → {p : ℕ} {c : Cut} → r ≡ At p c → IsChild s i p c
-is_child (At q d) (there v k f l h) {p} {c} e =
-    let x : q ≡ p = cc in
-    let y : d ≡ c = cc in
-    rw (← x, ← y) record { stands = v; kind = k; first = f; deep = l; low = h }
-is_child Nothing (nowhere f) e = impossible (cc)
+is_child : {s : List ℕ} {i : ℕ} {r : Maybe Placed} → NextChild s i r → {x : Placed} → r ≡ Some x → IsChild s i x.place x.cut
+is_child (there {x = y} v k f l h) {x} e = let z : y ≡ x = cc in rw (← z) record { stands = v; kind = k; first = f; deep = l; low = h }
+is_child (nowhere f) e = impossible (cc)
 
-module _ {s : List ℕ} {i : ℕ} {r : Child} (x : NextChild s i r) {p : ℕ} {c : Cut} (e : r ≡ At p c) where
-  pub child_stands : Stands s p c
-  child_stands = (is_child r x e).stands
+module _ {s : List ℕ} {i : ℕ} {x : Placed} (n : NextChild s i (Some x)) where
+  abbrev child_is : IsChild s i x.place x.cut
+  child_is = is_child n refl
 
-  pub child_start : c.kind ≡ Start
-  child_start = (is_child r x e).kind
+  pub child_stands : Stands s x.place x.cut
+  child_stands = child_is.stands
 
-  pub child_deep : 2 ≤ length (ahead s p)
-  child_deep = (is_child r x e).deep
+  pub child_start : x.cut.kind ≡ Start
+  child_start = child_is.kind
 
-  pub child_first : first_child (here s i) ≡ first_child (here s p)
-  child_first = (is_child r x e).first
+  pub child_deep : 2 ≤ length (ahead s x.place)
+  child_deep = child_is.deep
 
-  pub ask_less : {z : ℕ} → Passed s p c z → length s - z < length s - i
-  ask_less w = omega (arith, (is_child r x e).low, w.low, w.high)
+  pub child_first : first_child (here s i) ≡ first_child (here s x.place)
+  child_first = child_is.first
 
-  module _ {at : ℕ} {n : List ℕ} (w : Asking s at n i) where
-    asked : child_of n (here s at) ≡ child_of n (here s p)
-    asked = w.is ∙ named_first n (here s i) ∙ ap (child_of n) (is_child r x e).first ∙ sym (named_first n (here s p))
+  pub ask_less : {z : ℕ} → Passed s x.place x.cut z → length s - z < length s - i
+  ask_less w = omega (arith, child_is.low, w.low, w.high)
 
-    pub is_there : {b : Bool} {q : Part} → b ≡ same n (name_in s c) → b ≡ true → q ≡ part_of c → Named s at n q
+  module _ {at : ℕ} {m : List ℕ} (w : Asking s at m i) where
+    asked : child_of m (here s at) ≡ child_of m (here s x.place)
+    asked = w.is ∙ named_first m (here s i) ∙ ap (child_of m) child_is.first ∙ sym (named_first m (here s x.place))
+
+    pub is_there : {b : Bool} {q : Part} → b ≡ same m (name_in s x.cut) → b ≡ true → q ≡ part_of x.cut → Named s at m q
     is_there f g h =
-        let k = is_child r x e in
-        rw h record { is = named_here k.stands k.kind k.deep n (sym f ∙ g) c.short refl ∙ sym asked; inside = part_inside k.stands k.kind k.deep }
+        rw h record { is = named_here child_is.stands child_is.kind child_is.deep m (sym f ∙ g) x.cut.short refl ∙ sym asked; inside = part_inside child_is.stands child_is.kind child_is.deep }
 
-    pub ask_on : {b : Bool} {z : ℕ} → b ≡ same n (name_in s c) → b ≡ false → Passed s p c z → Asking s at n z
-    ask_on f g y =
-        let k = is_child r x e in
-        record { is = asked ∙ named_not k.stands k.kind k.deep n (sym f ∙ g) y; deep = y.deep; high = y.high }
+    pub ask_on : {b : Bool} {z : ℕ} → b ≡ same m (name_in s x.cut) → b ≡ false → Passed s x.place x.cut z → Asking s at m z
+    ask_on f g y = record { is = asked ∙ named_not child_is.stands child_is.kind child_is.deep m (sym f ∙ g) y; deep = y.deep; high = y.high }
 
-pub no_child : {s : List ℕ} {i : ℕ} (r : Child) → NextChild s i r → r ≡ Nothing → first_child (here s i) ≡ end
-no_child (At q d) (there v k f l h) e = impossible (cc)
-no_child Nothing (nowhere f) e = f
+none_first : {s : List ℕ} {i : ℕ} {r : Maybe Placed} → NextChild s i r → r ≡ None → first_child (here s i) ≡ end
+none_first (there v k f l h) e = impossible (cc)
+none_first (nowhere f) e = f
 
-pub not_there : {s : List ℕ} {at : ℕ} {n : List ℕ} {i : ℕ} {r : Child} → Asking s at n i → NextChild s i r → r ≡ Nothing → Named s at n Missing
+pub no_child : {s : List ℕ} {i : ℕ} → NextChild s i None → first_child (here s i) ≡ end
+no_child x = none_first x refl
+
+pub not_there : {s : List ℕ} {at : ℕ} {n : List ℕ} {i : ℕ} → Asking s at n i → NextChild s i None → Named s at n Missing
 unfolding nodes_in Inside child_of
-not_there {n = n} {i = i} {r = r} w x e =
-    record { is = sym (w.is ∙ named_first n (here _ i) ∙ ap (child_of n) (no_child r x e)); inside = tt }
+not_there {n = n} {i = i} w x = record { is = sym (w.is ∙ named_first n (here _ i) ∙ ap (child_of n) (no_child x)); inside = tt }
 
 pub ruleset asking = (ask, ask_high, ask_deep, child_stands, child_start, child_deep, ask_less, is_there, ask_on, not_there, rules)

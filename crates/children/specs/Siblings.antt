@@ -1,5 +1,6 @@
 -- What the children of an element are, by place.
-use Rattle.std.specs.Prelude.{◌≡◌, Bool, cond, ℕ, ◌≤◌, ◌<◌, length}
+use Rattle.std.specs.Prelude.{◌≡◌, Bool, cond, ℕ, ◌≤◌, ◌<◌, length, Some, None}
+use Rattle.std.specs.Prelude.{Option as Maybe}
 use mathlib.Core.List.{List, tail}
 use Rattle.std.proofs.Math.Option.{Option, none, some}
 use Rattle.cdi.specs.Tree.{Nodes, end, element, other, levels}
@@ -11,8 +12,7 @@ use Rattle.pieces_cuts.specs.declared.Cut.{Cut}
 use Rattle.levels.specs.Ahead.{from, name_in, attributes_in, here}
 use Rattle.children.specs.declared.Turn.{Turn}
 use Rattle.children.specs.declared.Turn.TheVariants.{Opens, Closes, Stays}
-use Rattle.children.specs.declared.Child.{Child}
-use Rattle.children.specs.declared.Child.TheVariants.{At, Nothing}
+use Rattle.children.specs.declared.Placed.{Placed}
 use Rattle.children.specs.declared.Part.{Part}
 use Rattle.children.specs.declared.Part.TheVariants.{Missing, Empty, From}
 
@@ -52,9 +52,9 @@ first_child end = end
 first_child (other p c following) = first_child following
 first_child (element p n s kids following) = element p n s kids following
 
-pub data NextChild (s : List ℕ) (at : ℕ) : Child → Type 0 where
-  there : {p : ℕ} {c : Cut} → Stands s p c → c.kind ≡ Start → first_child (here s at) ≡ first_child (here s p) → 2 ≤ length (ahead s p) → at ≤ p → NextChild s at (At p c)
-  nowhere : first_child (here s at) ≡ end → NextChild s at Nothing
+pub data NextChild (s : List ℕ) (at : ℕ) : Maybe Placed → Type 0 where
+  there : {x : Placed} → Stands s x.place x.cut → x.cut.kind ≡ Start → first_child (here s at) ≡ first_child (here s x.place) → 2 ≤ length (ahead s x.place) → at ≤ x.place → NextChild s at (Some x)
+  nowhere : first_child (here s at) ≡ end → NextChild s at None
 
 -- the content of the element with a start tag, as the code says it, and what that means
 unfoldable pub part_of : Cut → Part

@@ -2,7 +2,8 @@
 // come at its level, up to the end tag that closes the level.
 #![tactic(auto)]
 
-ghost use Rattle.std.specs.Prelude.{◌≡◌, ◌≤◌, length};
+ghost use Rattle.std.specs.Prelude.{◌≡◌, ◌≤◌, ◌-◌, length};
+ghost use Rattle.std.specs.Iterator.{at_most};
 ghost use Rattle.pieces_cuts.specs.Cuts.{Stands};
 ghost use Rattle.pieces_cuts.specs.declared.Kind.TheVariants.{Start};
 ghost use Rattle.cdi.specs.Lists.{same as same_bytes};
@@ -21,11 +22,38 @@ pub enum Turn {
     Stays,
 }
 
-// A child's place and start tag.
+// A piece with its place; a child's is its start tag.
 #[derive(Clone, Copy)]
-pub enum Child {
-    At { place: usize, tag: Cut },
-    Nothing,
+pub struct Placed {
+    pub place: usize,
+    pub cut: Cut,
+}
+
+// The pieces of a content from a place on.
+#[derive(Drop)]
+pub struct Pieces<'a> {
+    pub content: &'a [u8],
+    pub at: usize,
+}
+
+impl<'a> Iterator for Pieces<'a> {
+    ghost use Rattle.children.specs.Walk.{Gives};
+
+    type Item = Placed;
+
+    ghost next_gives = { Gives };
+
+    ghost remaining = { λ p. at_most (length p.content.now - p.at) };
+
+    fn next(&mut self) -> Option<Placed> {
+        let place = self.at;
+        if place < self.content.len() {
+            let cut = piece_at(self.content, place);
+            self.at = cut.end;
+            return Some(Placed { place, cut });
+        }
+        None
+    }
 }
 
 // The content of an element: none, since there is no such element; empty, by the short form; or from a place on.
@@ -36,22 +64,14 @@ pub enum Part {
     From(usize),
 }
 
+#[tactic(auto, unfolding(crate::specs::Siblings::turn_of))]
 fn turn_of(kind: Kind, short: bool) -> Turn
     ensures { result ≡ turn_of kind short }
 {
     match kind {
-        Kind::Start => {
-            if short {
-                return Turn::Stays;
-            }
-            Turn::Opens
-        }
+        Kind::Start if !short => Turn::Opens,
         Kind::Finish => Turn::Closes,
-        Kind::Remark => Turn::Stays,
-        Kind::Refer => Turn::Stays,
-        Kind::Text => Turn::Stays,
-        Kind::Malformed => Turn::Stays,
-        Kind::Unsupported => Turn::Stays,
+        _ => Turn::Stays,
     }
 }
 
@@ -60,30 +80,16 @@ pub fn behind(s: &[u8], at: usize) -> usize
     requires { (at ≤ length s.now) × (2 ≤ length (ahead s.now at)) }
     ensures { Behind s.now at result }
 {
-    let mut i = at;
     let mut depth: usize = 0;
-    while i < s.len() {
-        let c = piece_at(s, i);
-        let kind = c.kind;
-        let turn = turn_of(kind, c.short);
-        match turn {
-            Turn::Opens => {
-                depth += 1;
-                i = c.end;
-            }
-            Turn::Closes => {
-                if depth == 0 {
-                    return c.end;
-                }
-                depth -= 1;
-                i = c.end;
-            }
-            Turn::Stays => {
-                i = c.end;
-            }
+    for piece in (Pieces { content: s, at }) {
+        match turn_of(piece.cut.kind, piece.cut.short) {
+            Turn::Opens => depth += 1,
+            Turn::Closes if depth == 0 => return piece.cut.end,
+            Turn::Closes => depth -= 1,
+            Turn::Stays => {}
         }
     }
-    i
+    s.len()
 }
 
 // The place behind the element whose start tag stands at this place.
@@ -92,45 +98,25 @@ pub fn after(s: &[u8], at: usize, tag: Cut) -> usize
     ensures { Passed s.now at tag result }
 {
     if tag.short {
-        return tag.end;
+        tag.end
+    } else {
+        behind(s, tag.end)
     }
-    behind(s, tag.end)
 }
 
 // The next child at the level of this place.
-pub fn next_child(s: &[u8], at: usize) -> Child
+pub fn next_child(s: &[u8], at: usize) -> Option<Placed>
     requires { (at ≤ length s.now) × (2 ≤ length (ahead s.now at)) }
     ensures { NextChild s.now at result }
 {
-    let mut i = at;
-    while i < s.len() {
-        let c = piece_at(s, i);
-        let kind = c.kind;
-        match kind {
-            Kind::Start => {
-                return Child::At { place: i, tag: c };
-            }
-            Kind::Finish => {
-                return Child::Nothing;
-            }
-            Kind::Remark => {
-                i = c.end;
-            }
-            Kind::Refer => {
-                i = c.end;
-            }
-            Kind::Text => {
-                i = c.end;
-            }
-            Kind::Malformed => {
-                i = c.end;
-            }
-            Kind::Unsupported => {
-                i = c.end;
-            }
+    for piece in (Pieces { content: s, at }) {
+        match piece.cut.kind {
+            Kind::Start => return Some(piece),
+            Kind::Finish => return None,
+            _ => {}
         }
     }
-    Child::Nothing
+    None
 }
 
 // Has the tag this name?
@@ -138,19 +124,19 @@ pub fn is_named(s: &[u8], at: usize, tag: Cut, name: &[u8]) -> bool
     requires { Stands s.now at tag }
     ensures { result ≡ same_bytes name.now (name_in s.now tag) }
 {
-    let from = tag.name;
-    let to = tag.behind;
-    same(name, &s[from..to])
+    same(name, &s[tag.name..tag.behind])
 }
 
 // The content of the element with this start tag.
+#[tactic(auto, unfolding(crate::specs::Siblings::part_of))]
 pub fn part_of(tag: Cut) -> Part
     ensures { result ≡ part_of tag }
 {
     if tag.short {
-        return Part::Empty;
+        Part::Empty
+    } else {
+        Part::From(tag.end)
     }
-    Part::From(tag.end)
 }
 
 // The content of the first child of this name at the level of this place.
@@ -159,18 +145,11 @@ pub fn content_of(s: &[u8], at: usize, name: &[u8]) -> Part
     ensures { Named s.now at name.now result }
 {
     let mut i = at;
-    loop {
-        let next = next_child(s, i);
-        match next {
-            Child::Nothing => {
-                return Part::Missing;
-            }
-            Child::At { place, tag } => {
-                if is_named(s, place, tag, name) {
-                    return part_of(tag);
-                }
-                i = after(s, place, tag);
-            }
+    while let Some(Placed { place, cut: tag }) = next_child(s, i) {
+        if is_named(s, place, tag, name) {
+            return part_of(tag);
         }
+        i = after(s, place, tag);
     }
+    Part::Missing
 }

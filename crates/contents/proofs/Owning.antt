@@ -3,9 +3,8 @@ use mathlib.Core.Path.{◌≡◌, refl, sym, ap, ◌∙◌}
 use mathlib.Core.List.{List, [], ◌∷◌, tail}
 use mathlib.Core.Bool.{Bool, true, false, cond}
 use mathlib.Core.Option.{none, some}
-use Prim.Native.Nat.{ℕ, ◌-◌, ◌≤◌, ◌<◌}
+use Prim.Native.Nat.{ℕ, ◌≤◌}
 use native.Mathlib.Omega.{arith}
-use borrow.Author.Rules.{rules}
 use lib.ListN.{length}
 use Rattle.cdi.specs.Pieces.{Attribute, start, remark, refer, text}
 use Rattle.cdi.specs.Tree.{Nodes, end, element, other, grow, levels, top, tree}
@@ -13,8 +12,9 @@ use Rattle.cdi.specs.Numbers.{number}
 use Rattle.cdi.specs.Rules.{own_text, own_number}
 use Rattle.cdi.proofs.Quiet.{impossible}
 use Rattle.numbers.specs.Held.{number_of}
-use Rattle.numbers.specs.declared.Number.{Number}
-use Rattle.numbers.specs.declared.Number.TheVariants.{Not}
+use Rattle.numbers.specs.declared.Signed.{Signed}
+use Rattle.std.specs.Borrow.{Bor}
+use Rattle.std.specs.Prelude as std
 use Rattle.pieces_cuts.specs.Places.{part}
 use Rattle.pieces_cuts.specs.Cuts.{piece_of, Stands}
 use Rattle.pieces_cuts.specs.declared.Kind.{Kind}
@@ -26,9 +26,7 @@ use Rattle.children.specs.Siblings.{ahead}
 use Rattle.children.proofs.Turning.{nothing_ahead}
 use Rattle.contents.specs.declared.Role.{Role}
 use Rattle.contents.specs.declared.Role.TheVariants as role
-use Rattle.contents.specs.declared.Own.{Own}
-use Rattle.contents.specs.declared.Own.TheVariants as own
-use Rattle.contents.specs.Own.{role_of, is_end, text_of, Within, Told}
+use Rattle.contents.specs.Own.{role_of, is_end, text_of, Told}
 
 -- ── what is to come, by the piece that stands there ──
 
@@ -160,55 +158,74 @@ module _ {s : List ℕ} {at i : ℕ} (w : Same s at i) where
   pub end_out : length s ≤ i → true ≡ is_end (here s at)
   end_out h = absurd (out h)
 
-  pub own_out : length s ≤ i → Told s at own.Not
+  pub own_out : length s ≤ i → Told s at std.None
   own_out h = absurd (out h)
 
   module _ {c : Cut} (v : Stands s i c) {r : Role} (e : r ≡ role_of c.kind) where
     pub same_on : r ≡ role.Nothing → Same s at c.end
     same_on q = record { is = w.is ∙ at_nothing v e q; deep = w.deep; high = v.cut.high }
 
-    pub same_less : length s - c.end < length s - i
-    same_less = omega (arith, v.cut.low, v.cut.high)
-
     pub end_end : r ≡ role.End → true ≡ is_end (here s at)
     unfolding is_end
     end_end q = sym (ap is_end (here_is ∙ at_end v e q))
 
-    pub end_run : r ≡ role.Run → false ≡ is_end (here s at)
+    end_run : r ≡ role.Run → false ≡ is_end (here s at)
     unfolding is_end tree top
     end_run q = sym (ap (λ (fs : List Nodes). is_end (top fs)) (w.is ∙ at_run v e q))
 
-    pub end_character : r ≡ role.Character → false ≡ is_end (here s at)
+    end_character : r ≡ role.Character → false ≡ is_end (here s at)
     unfolding is_end tree top
     end_character q = sym (ap (λ (fs : List Nodes). is_end (top fs)) (w.is ∙ at_character v e q))
 
-    pub end_dropped : r ≡ role.Dropped → false ≡ is_end (here s at)
+    end_dropped : r ≡ role.Dropped → false ≡ is_end (here s at)
     unfolding is_end tree top
     end_dropped q = sym (ap (λ (fs : List Nodes). is_end (top fs)) (w.is ∙ at_dropped v e q))
 
-    pub end_element : r ≡ role.Element → false ≡ is_end (here s at)
+    end_element : r ≡ role.Element → false ≡ is_end (here s at)
     end_element q = sym (ap is_end here_is ∙ (at_element v e q (rw w.is at w.deep)).0)
+
+    pub end_more : (r ≡ role.End → ⊥) → (r ≡ role.Nothing → ⊥) → false ≡ is_end (here s at)
+    end_more a b = by r refl
+      where
+        by : (o : Role) → r ≡ o → false ≡ is_end (here s at)
+        by role.Run q = end_run q
+        by role.Character q = end_character q
+        by role.Element q = end_element q
+        by role.Dropped q = end_dropped q
+        by role.End q = absurd (a q)
+        by role.Nothing q = absurd (b q)
 
     -- ── one run of text ──
 
-    not_own : own_text (here s i) ≡ none → Told s at own.Not
-    unfolding text_of Within
-    not_own q = record { is = sym (ap own_text here_is ∙ q); within = tt }
+    not_own : own_text (here s i) ≡ none → Told s at std.None
+    unfolding text_of
+    not_own q = record { is = sym (ap own_text here_is ∙ q) }
 
-    pub own_end : r ≡ role.End → Told s at own.Not
+    own_end : r ≡ role.End → Told s at std.None
     unfolding own_text
     own_end q = not_own (ap own_text (at_end v e q))
 
-    pub own_character : r ≡ role.Character → Told s at own.Not
+    own_character : r ≡ role.Character → Told s at std.None
     unfolding own_text tree top
     own_character q = not_own (ap (λ (fs : List Nodes). own_text (top fs)) (at_character v e q))
 
-    pub own_dropped : r ≡ role.Dropped → Told s at own.Not
+    own_dropped : r ≡ role.Dropped → Told s at std.None
     unfolding own_text tree top
     own_dropped q = not_own (ap (λ (fs : List Nodes). own_text (top fs)) (at_dropped v e q))
 
-    pub own_element : r ≡ role.Element → Told s at own.Not
+    own_element : r ≡ role.Element → Told s at std.None
     own_element q = not_own (at_element v e q (rw w.is at w.deep)).1
+
+    pub own_other : (r ≡ role.Run → ⊥) → (r ≡ role.Nothing → ⊥) → Told s at std.None
+    own_other a b = by r refl
+      where
+        by : (o : Role) → r ≡ o → Told s at std.None
+        by role.Run q = absurd (a q)
+        by role.Character q = own_character q
+        by role.Element q = own_element q
+        by role.Dropped q = own_dropped q
+        by role.End q = own_end q
+        by role.Nothing q = absurd (b q)
 
     pub run_deep : r ≡ role.Run → 2 ≤ length (ahead s c.end)
     run_deep q = omega (arith, w.deep, ap length (w.is ∙ at_run v e q), ap length (split (from s c.end)))
@@ -226,37 +243,20 @@ module _ {s : List ℕ} {at i : ℕ} (w : Same s at i) where
         by (other p d following) z = let k : b ≡ false = sym h ∙ ap is_end z in rw (z, k)
 
     module _ (q : r ≡ role.Run) {b : Bool} (h : b ≡ is_end (here s c.end)) where
-      pub own_run : b ≡ true → Told s at (own.Text i c.end)
-      unfolding text_of Within
-      own_run t = record { is = sym (ap own_text here_is ∙ run_text q true (sym h ∙ t) _ refl); within = (omega (arith, v.cut.low), v.cut.high) }
+      pub own_run : b ≡ true → {t : Bor (List ℕ)} → t.now ≡ part s i c.end → Told s at (std.Some t)
+      unfolding text_of
+      own_run t z = record { is = ap some z ∙ sym (ap own_text here_is ∙ run_text q true (sym h ∙ t) _ refl) }
 
-      pub own_more : b ≡ false → Told s at own.Not
+      pub own_more : b ≡ false → Told s at std.None
       own_more t = not_own (run_text q false (sym h ∙ t) _ refl)
-
-pub ruleset ending = (same_start, end_out, same_on, same_less, end_end, end_run, end_character, end_dropped, end_element, rules)
-
-pub ruleset owning = (same_start, own_out, same_on, same_less, own_end, own_character, own_dropped, own_element, run_deep, run_high, own_run, own_more, rules)
 
 -- ── its number ──
 
-module _ {s : List ℕ} {at : ℕ} {r : Own} (w : Told s at r) where
-  module _ {a b : ℕ} (e : r ≡ own.Text a b) where
-    places : (a ≤ b) × (b ≤ length s)
-    unfolding Within
-    places = rw e at w.within
+module _ {s : List ℕ} {at : ℕ} where
+  pub is_number : {t : Bor (List ℕ)} → Told s at (std.Some t) → {q : std.Option Signed} → q ≡ number_of (number t.now) → q ≡ number_of (own_number (here s at))
+  unfolding own_number text_of
+  is_number w k = k ∙ sym (rw (sym w.is))
 
-    pub text_low : a ≤ b
-    text_low = places.0
-
-    pub text_high : b ≤ length s
-    text_high = places.1
-
-    pub is_number : {q : Number} → q ≡ number_of (number (part s a b)) → q ≡ number_of (own_number (here s at))
-    unfolding own_number text_of
-    is_number k = let z : own_text (here s at) ≡ some (part s a b) = sym w.is ∙ ap (text_of s) e in k ∙ sym (rw z)
-
-  pub no_number : r ≡ own.Not → Not ≡ number_of (own_number (here s at))
+  pub no_number : Told s at std.None → std.None ≡ number_of (own_number (here s at))
   unfolding own_number text_of number_of
-  no_number e = let z : own_text (here s at) ≡ none = sym w.is ∙ ap (text_of s) e in sym (rw z)
-
-pub ruleset numbering = (text_low, text_high, is_number, no_number, rules)
+  no_number w = sym (rw (sym w.is))

@@ -2,20 +2,18 @@
 // for what is still to come at its level.
 #![tactic(auto)]
 
-ghost use Rattle.std.specs.Prelude.{◌≡◌, ◌≤◌, length, drop};
-ghost use Rattle.cdi.specs.Lists.{same as same_bytes, begins};
+ghost use Rattle.std.specs.Prelude.{◌≡◌, ◌≤◌, length};
+ghost use Rattle.cdi.specs.Lists.{same as same_bytes};
 ghost use Rattle.cdi.specs.Rules.{own_number};
 ghost use Rattle.cdi.specs.Access.{decoded as decoded_text};
-ghost use Rattle.pieces_cuts.specs.Places.{part};
 ghost use Rattle.pieces_characters.specs.Characters.{utf8_of};
 ghost use Rattle.numbers.specs.Held.{number_of};
 ghost use Rattle.levels.specs.Ahead.{here};
 ghost use Rattle.children.specs.Siblings.{ahead};
 ghost use Rattle.contents.specs.Own.{role_of, is_end, Told, behind_of};
 
-use children::after;
-use numbers::{Number, read_number};
-use pieces::piece_at;
+use children::{Pieces, Placed, after};
+use numbers::{Signed, read_number};
 use pieces_characters::utf8;
 use pieces_cuts::Kind;
 use scan::begins_at;
@@ -31,13 +29,7 @@ pub enum Role {
     Nothing,
 }
 
-// One run of text and nothing else, from a place to before another.
-#[derive(Clone, Copy)]
-pub enum Own {
-    Text { from: usize, to: usize },
-    Not,
-}
-
+#[tactic(auto, unfolding(crate::specs::Own::role_of))]
 fn role_of(kind: Kind) -> Role
     ensures { result ≡ role_of kind }
 {
@@ -47,8 +39,7 @@ fn role_of(kind: Kind) -> Role
         Kind::Remark => Role::Dropped,
         Kind::Refer => Role::Character,
         Kind::Text => Role::Run,
-        Kind::Malformed => Role::Nothing,
-        Kind::Unsupported => Role::Nothing,
+        Kind::Malformed | Kind::Unsupported => Role::Nothing,
     }
 }
 
@@ -57,107 +48,58 @@ fn is_end(s: &[u8], at: usize) -> bool
     requires { (at ≤ length s.now) × (2 ≤ length (ahead s.now at)) }
     ensures { result ≡ is_end (here s.now at) }
 {
-    let mut i = at;
-    while i < s.len() {
-        let c = piece_at(s, i);
-        let kind = c.kind;
-        let role = role_of(kind);
-        match role {
-            Role::End => {
-                return true;
-            }
-            Role::Nothing => {
-                i = c.end;
-            }
-            Role::Run => {
-                return false;
-            }
-            Role::Character => {
-                return false;
-            }
-            Role::Element => {
-                return false;
-            }
-            Role::Dropped => {
-                return false;
-            }
+    for piece in (Pieces { content: s, at }) {
+        match role_of(piece.cut.kind) {
+            Role::End => return true,
+            Role::Nothing => {}
+            _ => return false,
         }
     }
     true
 }
 
 // The one run of text that is to come at the level of this place, and nothing else.
-pub fn own_text(s: &[u8], at: usize) -> Own
+pub fn own_text(s: &[u8], at: usize) -> Option<&[u8]>
     requires { (at ≤ length s.now) × (2 ≤ length (ahead s.now at)) }
     ensures { Told s.now at result }
 {
-    let mut i = at;
-    while i < s.len() {
-        let c = piece_at(s, i);
-        let kind = c.kind;
-        let role = role_of(kind);
-        match role {
-            Role::Run => {
-                if is_end(s, c.end) {
-                    return Own::Text { from: i, to: c.end };
-                }
-                return Own::Not;
-            }
-            Role::Nothing => {
-                i = c.end;
-            }
-            Role::End => {
-                return Own::Not;
-            }
-            Role::Character => {
-                return Own::Not;
-            }
-            Role::Element => {
-                return Own::Not;
-            }
-            Role::Dropped => {
-                return Own::Not;
-            }
+    for Placed { place, cut } in (Pieces { content: s, at }) {
+        match role_of(cut.kind) {
+            Role::Run if is_end(s, cut.end) => return Some(&s[place..cut.end]),
+            Role::Nothing => {}
+            _ => return None,
         }
     }
-    Own::Not
+    None
 }
 
 // The number that the one run of text is.
-pub fn own_number(s: &[u8], at: usize) -> Number
+pub fn own_number(s: &[u8], at: usize) -> Option<Signed>
     requires { (at ≤ length s.now) × (2 ≤ length (ahead s.now at)) }
     ensures { result ≡ number_of (own_number (here s.now at)) }
 {
-    let own = own_text(s, at);
-    match own {
-        Own::Text { from, to } => read_number(&s[from..to]),
-        Own::Not => Number::Not,
+    read_number(own_text(s, at)?)
+}
+
+// Where the text is behind this word, if it goes on with it from its byte k.
+fn behind_word(word: &[u8], text: &[u8], k: usize) -> Option<usize>
+    requires { k ≤ length text.now }
+    ensures { result ≡ behind_of word.now text.now k }
+{
+    if begins_at(text, k, word) {
+        Some(k + word.len())
+    } else {
+        None
     }
 }
 
-// Does the text go on, from its byte k, with this part of the content?
-fn goes_on(s: &[u8], from: usize, to: usize, text: &[u8], k: usize) -> bool
-    requires { (from ≤ to) × (to ≤ length s.now) × (k ≤ length text.now) }
-    ensures { result ≡ begins (part s.now from to) (drop k text.now) }
-{
-    begins_at(text, k, &s[from..to])
-}
-
-// Where the text is behind this character, if it goes on with it from its byte k; else past its end.
-fn behind_character(code: u32, text: &[u8], k: usize) -> usize
+// The same of a character's bytes.
+fn behind_character(code: u32, text: &[u8], k: usize) -> Option<usize>
     requires { k ≤ length text.now }
     ensures { result ≡ behind_of (utf8_of code) text.now k }
 {
     let encoding = utf8(code);
-    let bytes = encoding.bytes;
-    let count = encoding.length;
-    if text.len() - k < count {
-        return text.len() + 1;
-    }
-    if begins_at(text, k, &bytes[0..count]) {
-        return k + count;
-    }
-    text.len() + 1
+    behind_word(&encoding.bytes[..encoding.length], text, k)
 }
 
 // Is the text what is to come at the level of this place, with its references decoded, and its comments and instructions dropped?
@@ -165,41 +107,25 @@ pub fn is_decoded(s: &[u8], at: usize, text: &[u8]) -> bool
     requires { (at ≤ length s.now) × (2 ≤ length (ahead s.now at)) }
     ensures { result ≡ same_bytes text.now (decoded_text (here s.now at)) }
 {
-    let mut i = at;
+    let mut pieces = Pieces { content: s, at };
     let mut k: usize = 0;
-    while i < s.len() {
-        let c = piece_at(s, i);
-        let kind = c.kind;
-        let role = role_of(kind);
-        match role {
+    while let Some(Placed { place, cut }) = pieces.next() {
+        match role_of(cut.kind) {
             Role::Run => {
-                if goes_on(s, i, c.end, text, k) {
-                    k = k + (c.end - i);
-                    i = c.end;
-                } else {
+                let Some(next) = behind_word(&s[place..cut.end], text, k) else {
                     return false;
-                }
+                };
+                k = next;
             }
             Role::Character => {
-                let next = behind_character(c.code, text, k);
-                if text.len() < next {
+                let Some(next) = behind_character(cut.code, text, k) else {
                     return false;
-                }
+                };
                 k = next;
-                i = c.end;
             }
-            Role::Element => {
-                i = after(s, i, c);
-            }
-            Role::Dropped => {
-                i = c.end;
-            }
-            Role::Nothing => {
-                i = c.end;
-            }
-            Role::End => {
-                return k == text.len();
-            }
+            Role::Element => pieces.at = after(s, place, cut),
+            Role::Dropped | Role::Nothing => {}
+            Role::End => return k == text.len(),
         }
     }
     false

@@ -21,14 +21,12 @@ use Rattle.cdi.specs.Access.{child_of, decoded, properties, equals}
 use Rattle.cdi.proofs.Quiet.{impossible, same_comm}
 use Rattle.scan.proofs.Tests.{lt_or_le, eq_or_ne}
 use Rattle.numbers.specs.declared.Signed.{Signed}
-use Rattle.numbers.specs.declared.Number.{Number}
-use Rattle.numbers.specs.declared.Number.TheVariants as number
+use Rattle.std.specs.Prelude as std
 use Rattle.numbers.specs.Held.{held, signed_of, number_of}
 use Rattle.pieces_cuts.specs.declared.Cut.{Cut}
 use Rattle.levels.specs.Ahead.{name_in, here}
 use Rattle.children.specs.Siblings.{ahead, content_of, Passed, first_child, NextChild, nodes_in, Named}
-use Rattle.children.specs.declared.Child.{Child}
-use Rattle.children.specs.declared.Child.TheVariants.{At, Nothing}
+use Rattle.children.specs.declared.Placed.{Placed}
 use Rattle.children.specs.declared.Part.{Part}
 use Rattle.children.specs.declared.Part.TheVariants.{Missing, Empty, From}
 use Rattle.children.proofs.Turning.{child_stands, child_start, child_deep, child_first, no_child, ask_less, long_deep, tag_high}
@@ -89,24 +87,24 @@ module _ {w : Wanted} (t : List ℕ) (u : Nodes) where
   unfolding wanted_of equals
   no_event e = sym (rw e)
 
-  module _ {b : Bool} {m : ℕ} (e : w ≡ wanted.Number b m) {n : Number} (q : n ≡ number_of (own_number u)) where
+  module _ {b : Bool} {m : ℕ} (e : w ≡ wanted.Number b m) {n : std.Option Signed} (q : n ≡ number_of (own_number u)) where
     asked : equals (wanted_of w t) u ≡ given (own_number u) false (same_number (with_sign b m))
     unfolding wanted_of equals
     asked = rw e
 
-    pub not_number : n ≡ number.Not → false ≡ equals (wanted_of w t) u
+    pub not_number : n ≡ std.None → false ≡ equals (wanted_of w t) u
     unfolding number_of
     not_number k = by (own_number u) refl (sym q ∙ k)
       where
-        by : (o : Option ℤ) → own_number u ≡ o → number_of o ≡ number.Not → false ≡ equals (wanted_of w t) u
+        by : (o : Option ℤ) → own_number u ≡ o → number_of o ≡ std.None → false ≡ equals (wanted_of w t) u
         by none z x = sym (asked ∙ rw z)
         by (some y) z x = impossible (cc)
 
-    pub by_number : {a : Signed} {r : Bool} → n ≡ number.Is a → r ≡ is_equal a b m → m < 2 ^ 64 → r ≡ equals (wanted_of w t) u
+    pub by_number : {a : Signed} {r : Bool} → n ≡ std.Some a → r ≡ is_equal a b m → m < 2 ^ 64 → r ≡ equals (wanted_of w t) u
     unfolding number_of
     by_number {a} {r} k z h = by (own_number u) refl (sym q ∙ k)
       where
-        by : (o : Option ℤ) → own_number u ≡ o → number_of o ≡ number.Is a → r ≡ equals (wanted_of w t) u
+        by : (o : Option ℤ) → own_number u ≡ o → number_of o ≡ std.Some a → r ≡ equals (wanted_of w t) u
         by none y x = impossible (cc)
         by (some i) y x = let g : signed_of i ≡ a = cc in z ∙ ap (λ v. is_equal v b m) (sym g) ∙ number_same i b m h ∙ sym (asked ∙ rw y)
 
@@ -124,11 +122,16 @@ module _ {w : Wanted} (t : List ℕ) where
   unfolding wanted_of equals decoded
   empty_text e q = q ∙ none_same t ∙ sym (rw e)
 
-  pub empty_number : {b : Bool} {m : ℕ} → w ≡ wanted.Number b m → false ≡ equals (wanted_of w t) end
+  pub empty_other : (w ≡ wanted.Text → ⊥) → false ≡ equals (wanted_of w t) end
   unfolding wanted_of equals own_number own_text
-  empty_number e = sym (rw e)
+  empty_other h = by w refl
+    where
+      by : (v : Wanted) → w ≡ v → false ≡ equals (wanted_of w t) end
+      by (wanted.Number b m) e = sym (rw e)
+      by (wanted.Event v) e = sym (rw e)
+      by wanted.Text e = absurd (h e)
 
-pub ruleset empties = (empty_text, no_event, empty_number, rules)
+pub ruleset empties = (empty_text, empty_other, rules)
 
 -- ── a property ──
 
@@ -199,15 +202,15 @@ module _ {s : List ℕ} {at : ℕ} {f : Nodes → Bool} {i : ℕ} (w : Listing s
   pub list_deep : 2 ≤ length (ahead s i)
   list_deep = w.deep
 
-  pub list_none : {r : Child} → NextChild s i r → r ≡ Nothing → false ≡ any f (properties (here s at))
+  pub list_none : NextChild s i std.None → false ≡ any f (properties (here s at))
   unfolding properties any
-  list_none {r} x e = sym (w.is ∙ ap (any f) (properties_first (here s i)) ∙ ap (λ u. any f (properties u)) (no_child r x e))
+  list_none x = sym (w.is ∙ ap (any f) (properties_first (here s i)) ∙ ap (λ u. any f (properties u)) (no_child x))
 
-  module _ {r : Child} (x : NextChild s i r) {p : ℕ} {c : Cut} (e : r ≡ At p c) {n : ℕ} (y : Passed s p c n) {b : Bool} (z : b ≡ match_of f (name_in s c) (content_of s c)) where
+  module _ {x : Placed} (h : NextChild s i (std.Some x)) {b : Bool} (z : b ≡ match_of f (name_in s x.cut) (content_of s x.cut)) {n : ℕ} (y : Passed s x.place x.cut n) where
     split_off : any f (properties (here s at)) ≡ (b || any f (properties (here s n)))
     split_off =
-        w.is ∙ ap (any f) (properties_first (here s i) ∙ ap properties (child_first x e) ∙ sym (properties_first (here s p)) ∙ ap properties y.is)
-        ∙ listed_element f p (name_in s c) _ (content_of s c) (here s n) ∙ ap (λ v. v || any f (properties (here s n))) (sym z)
+        w.is ∙ ap (any f) (properties_first (here s i) ∙ ap properties (child_first h) ∙ sym (properties_first (here s x.place)) ∙ ap properties y.is)
+        ∙ listed_element f x.place (name_in s x.cut) _ (content_of s x.cut) (here s n) ∙ ap (λ v. v || any f (properties (here s n))) (sym z)
 
     pub list_found : b ≡ true → true ≡ any f (properties (here s at))
     list_found k = sym (split_off ∙ rw k)

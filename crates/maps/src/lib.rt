@@ -11,9 +11,8 @@ ghost use Rattle.levels.specs.Ahead.{name_in, here};
 ghost use Rattle.children.specs.Siblings.{ahead, content_of, nodes_in, Inside};
 ghost use Rattle.maps.specs.Matches.{wanted_of, match_of, no_nodes};
 
-use children::{Child, Part, after, content_of, is_named, next_child};
+use children::{Part, Placed, after, content_of, is_named, next_child};
 use contents::{is_decoded, own_number};
-use numbers::Number;
 use numbers_order::is_equal;
 use pieces_cuts::Cut;
 
@@ -36,12 +35,10 @@ fn is_content(s: &[u8], at: usize, wanted: Wanted, text: &[u8]) -> bool
         Wanted::Number {
             negative,
             magnitude,
-        } => {
-            let Number::Is(n) = own_number(s, at) else {
-                return false;
-            };
-            is_equal(n, negative, magnitude)
-        }
+        } => match own_number(s, at) {
+            Some(n) => is_equal(n, negative, magnitude),
+            None => false,
+        },
     }
 }
 
@@ -50,12 +47,8 @@ fn is_empty(wanted: Wanted, text: &[u8]) -> bool
     ensures { result ≡ equals (wanted_of wanted text.now) no_nodes }
 {
     match wanted {
-        Wanted::Text => text.len() == 0,
-        Wanted::Event(_) => false,
-        Wanted::Number {
-            negative: _,
-            magnitude: _,
-        } => false,
+        Wanted::Text => text.is_empty(),
+        _ => false,
     }
 }
 
@@ -76,14 +69,9 @@ fn is_match(s: &[u8], at: usize, tag: Cut, wanted: Wanted, text: &[u8]) -> bool
     requires { (Stands s.now at tag) × (tag.kind ≡ Start) × (2 ≤ length (ahead s.now at)) }
     ensures { result ≡ match_of (equals (wanted_of wanted text.now)) (name_in s.now tag) (content_of s.now tag) }
 {
-    if is_named(s, at, tag, b"relation") {
-        if tag.short {
-            return false;
-        }
-        let part = content_of(s, tag.end, b"property");
-        return is_property(s, part, wanted, text);
-    }
-    false
+    is_named(s, at, tag, b"relation")
+        && !tag.short
+        && is_property(s, content_of(s, tag.end, b"property"), wanted, text)
 }
 
 // Does one of the properties at the level of this place, which is in a map, equal it?
@@ -92,19 +80,12 @@ pub fn is_listed(s: &[u8], at: usize, wanted: Wanted, text: &[u8]) -> bool
     ensures { result ≡ any (equals (wanted_of wanted text.now)) (properties (here s.now at)) }
 {
     let mut i = at;
-    loop {
-        let next = next_child(s, i);
-        match next {
-            Child::Nothing => {
-                return false;
-            }
-            Child::At { place, tag } => {
-                let end = after(s, place, tag);
-                if is_match(s, place, tag, wanted, text) {
-                    return true;
-                }
-                i = end;
-            }
+    while let Some(Placed { place, cut: tag }) = next_child(s, i) {
+        let end = after(s, place, tag);
+        if is_match(s, place, tag, wanted, text) {
+            return true;
         }
+        i = end;
     }
+    false
 }

@@ -12,8 +12,8 @@ use Rattle.cdi.specs.Tree.{Nodes, end, element, other}
 use Rattle.cdi.specs.Rules.{own_text, own_number, Bound, bound_of, is_signed}
 use Rattle.cdi.specs.Access.{child_of}
 use Rattle.numbers.specs.Held.{number_of}
-use Rattle.numbers.specs.declared.Number.{Number}
-use Rattle.numbers.specs.declared.Number.TheVariants.{Not}
+use Rattle.numbers.specs.declared.Signed.{Signed}
+use Rattle.std.specs.Prelude as std
 use Rattle.levels.specs.Ahead.{here}
 use Rattle.children.specs.Siblings.{nodes_in, Inside, Named}
 use Rattle.children.specs.declared.Part.{Part}
@@ -25,26 +25,28 @@ use Rattle.settings.specs.Limits.{own_in, child_number}
 -- ── the code's ways ──
 
 module _ (s : List ℕ) {p : Part} where
-  pub missing_number : p ≡ Missing → Not ≡ number_of (own_in (nodes_in s p))
-  unfolding nodes_in number_of own_in
-  missing_number e = sym (rw e)
-
-  pub empty_number : p ≡ Empty → Not ≡ number_of (own_in (nodes_in s p))
+  pub no_number : ((q : ℕ) → p ≡ From q → ⊥) → std.None ≡ number_of (own_in (nodes_in s p))
   unfolding nodes_in number_of own_in own_number own_text
-  empty_number e = sym (rw e)
+  no_number h = by p refl
+    where
+      by : (o : Part) → p ≡ o → std.None ≡ number_of (own_in (nodes_in s p))
+      by Missing e = sym (rw e)
+      by Empty e = sym (rw e)
+      by (From q) e = absurd (h q e)
 
-  pub some_number : {q : ℕ} {r : Number} → p ≡ From q → r ≡ number_of (own_number (here s q)) → r ≡ number_of (own_in (nodes_in s p))
+  pub some_number : {q : ℕ} {r : std.Option Signed} → p ≡ From q → r ≡ number_of (own_number (here s q)) → r ≡ number_of (own_in (nodes_in s p))
   unfolding nodes_in own_in
   some_number e z = z ∙ sym (rw e)
 
   module _ (n : List ℕ) where
-    pub no_child : p ≡ Missing → nodes_in s Missing ≡ child_of n (content_in s p)
+    pub no_child : ((q : ℕ) → p ≡ From q → ⊥) → nodes_in s Missing ≡ child_of n (content_in s p)
     unfolding nodes_in content_in child_of
-    no_child e = sym (rw e)
-
-    pub empty_child : p ≡ Empty → nodes_in s Missing ≡ child_of n (content_in s p)
-    unfolding nodes_in content_in child_of
-    empty_child e = sym (rw e)
+    no_child h = by p refl
+      where
+        by : (o : Part) → p ≡ o → nodes_in s Missing ≡ child_of n (content_in s p)
+        by Missing e = sym (rw e)
+        by Empty e = sym (rw e)
+        by (From q) e = absurd (h q e)
 
     pub some_child : {q : ℕ} {i : Part} → p ≡ From q → Named s q n i → nodes_in s i ≡ child_of n (content_in s p)
     unfolding nodes_in content_in
@@ -54,7 +56,7 @@ pub missing_inside : (s : List ℕ) → Inside s Missing
 unfolding Inside
 missing_inside s = tt
 
-pub ruleset child_ways = (no_child, empty_child, some_child, missing_inside, inside_high, inside_deep, part_inside, rules)
+pub ruleset child_ways = (no_child, some_child, missing_inside, inside_high, inside_deep, part_inside, rules)
 
 -- the child in a content that may be missing
 child_of_content : (s : List ℕ) (n : List ℕ) (p : Part) → child_of n (content_in s p) ≡ nodes_in s p >>= child_of n
@@ -63,11 +65,11 @@ child_of_content s n Missing = refl
 child_of_content s n Empty = refl
 child_of_content s n (From q) = refl
 
-pub number_of_child : (s n : List ℕ) (p i : Part) {r : Number} → nodes_in s i ≡ child_of n (content_in s p) → r ≡ number_of (own_in (nodes_in s i)) → r ≡ number_of (child_number n (nodes_in s p))
+pub number_of_child : (s n : List ℕ) (p i : Part) {r : std.Option Signed} → nodes_in s i ≡ child_of n (content_in s p) → r ≡ number_of (own_in (nodes_in s i)) → r ≡ number_of (child_number n (nodes_in s p))
 unfolding child_number
 number_of_child s n p i w z = z ∙ ap (λ o. number_of (own_in o)) (w ∙ child_of_content s n p)
 
-pub ruleset limiting = (missing_number, empty_number, some_number, number_of_child, inside_high, inside_deep, rules)
+pub ruleset limiting = (no_number, some_number, number_of_child, inside_high, inside_deep, rules)
 
 -- ── as the definitions take them ──
 

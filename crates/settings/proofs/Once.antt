@@ -11,12 +11,13 @@ use Rattle.cdi.specs.Numbers.{within}
 use Rattle.cdi.specs.Rules.{bound_of, is_signed, bounds_of}
 use Rattle.cdi.specs.Access.{Value, child_of, properties, has_map, equals}
 use Rattle.numbers.specs.Held.{number_of}
-use Rattle.numbers.specs.declared.Number.{Number}
+use Rattle.numbers.specs.declared.Signed.{Signed}
+use Rattle.std.specs.Prelude as std
 use Rattle.children.specs.Siblings.{nodes_in}
 use Rattle.children.specs.declared.Part.{Part}
 use Rattle.settings.specs.Limits.{child_number}
 
-pub child_number_once : (n : List ℕ) (o : Option Nodes) (r q : Number) → r ≡ number_of (child_number n o) → q ≡ number_of (child_number n o) → r ≡ q
+pub child_number_once : (n : List ℕ) (o : Option Nodes) (r q : std.Option Signed) → r ≡ number_of (child_number n o) → q ≡ number_of (child_number n o) → r ≡ q
 child_number_once n o r q e f = e ∙ sym f
 
 pub child_in_once : (s : List ℕ) (n : List ℕ) (kids : Nodes) (r q : Part) → nodes_in s r ≡ child_of n kids → nodes_in s q ≡ child_of n kids → nodes_in s r ≡ nodes_in s q

@@ -12,7 +12,7 @@ ghost use Rattle.settings.specs.Limits.{own_in, child_number};
 
 use children::{Part, content_of, part_of};
 use contents::own_number;
-use numbers::Number;
+use numbers::Signed;
 use pieces::piece_at;
 
 // The content of the element that stands at this place of a tree, which is that of the text from another place on: the tag is cut again there.
@@ -21,19 +21,17 @@ pub fn content_at(s: &[u8], from: usize, place: usize) -> Part
     ensures is { nodes_in s.now result ≡ content_at place (here s.now from) }
     ensures inside { Inside s.now result }
 {
-    let c = piece_at(s, place);
-    part_of(c)
+    part_of(piece_at(s, place))
 }
 
 // The number that a content is.
-fn number_in(s: &[u8], part: Part) -> Number
+fn number_in(s: &[u8], part: Part) -> Option<Signed>
     requires { Inside s.now part }
     ensures { result ≡ number_of (own_in (nodes_in s.now part)) }
 {
     match part {
-        Part::Missing => Number::Not,
-        Part::Empty => Number::Not,
         Part::From(at) => own_number(s, at),
+        _ => None,
     }
 }
 
@@ -44,17 +42,15 @@ pub fn child_in(s: &[u8], part: Part, name: &[u8]) -> Part
     ensures inside { Inside s.now result }
 {
     match part {
-        Part::Missing => Part::Missing,
-        Part::Empty => Part::Missing,
         Part::From(at) => content_of(s, at, name),
+        _ => Part::Missing,
     }
 }
 
 // The number that the child of this name is: a bound of an int.
-pub fn child_number(s: &[u8], part: Part, name: &[u8]) -> Number
+pub fn child_number(s: &[u8], part: Part, name: &[u8]) -> Option<Signed>
     requires { Inside s.now part }
     ensures { result ≡ number_of (child_number name.now (nodes_in s.now part)) }
 {
-    let inner = child_in(s, part, name);
-    number_in(s, inner)
+    number_in(s, child_in(s, part, name))
 }

@@ -20,8 +20,8 @@ use Rattle.cdi.specs.Access.{child_of}
 use Rattle.scan.proofs.Tests.{lt_or_le}
 use Rattle.numbers.specs.Held.{held, signed_of, number_of, size_of, nearest, high_of as range_high}
 use Rattle.numbers.specs.declared.Signed.{Signed}
-use Rattle.numbers.specs.declared.Number.{Number}
-use Rattle.numbers.specs.declared.Number.TheVariants.{Is, Not}
+use Rattle.std.specs.Prelude as std
+use Rattle.std.specs.Option.{unwrap_or}
 use Rattle.numbers.specs.declared.Range.{Range}
 use Rattle.children.specs.Siblings.{nodes_in}
 use Rattle.children.specs.declared.Part.{Part}
@@ -98,7 +98,7 @@ unfolding number_or number_of
 or_is none z = refl
 or_is (some y) z = refl
 
-module _ (s : List ℕ) (p : Part) {min : Number} (e : min ≡ number_of (child_number (ascii "min") (nodes_in s p))) where
+module _ (s : List ℕ) (p : Part) {min : std.Option Signed} (e : min ≡ number_of (child_number (ascii "min") (nodes_in s p))) where
   pub sign_is : {r : Bool} → r ≡ below_zero min → r ≡ is_signed (bound_of (ascii "min") (content_in s p))
   sign_is z =
       z ∙ ap below_zero e ∙ below_is (child_number (ascii "min") (nodes_in s p)) ∙ ap (λ o. given o false (λ y. lt_z y (pos 0))) (same_child s (ascii "min") p)
@@ -110,7 +110,7 @@ module _ (s : List ℕ) (p : Part) {min : Number} (e : min ≡ number_of (child_
       ap (λ k. number_or k (signed_of (pos 0))) (e ∙ ap number_of (same_child s (ascii "min") p)) ∙ or_is (child_number (ascii "min") (some (content_in s p))) (pos 0)
       ∙ ap signed_of (sym (bound_value (ascii "min") (content_in s p) (pos 0)))
 
-  high_is : (n : ℕ) {max : Number} → max ≡ number_of (child_number (ascii "max") (nodes_in s p)) → high_of n min max ≡ signed_of (bounds_of n (content_in s p)).max
+  high_is : (n : ℕ) {max : std.Option Signed} → max ≡ number_of (child_number (ascii "max") (nodes_in s p)) → high_of n min max ≡ signed_of (bounds_of n (content_in s p)).max
   unfolding high_of bounds_of
   high_is n {max} f =
       ap (λ b. number_or max (signed_of (largest b n))) (sign_is refl)
@@ -124,41 +124,30 @@ pub ruleset signing = (sign_is, rules)
 
 -- ── the code's ways ──
 
-module _ {number : Number} where
-  pub some_sign : {n : Signed} → number ≡ Is n → n.negative ≡ below_zero number
-  unfolding below_zero
-  some_sign e = sym (rw e)
+pub below_by : (o : std.Option Signed) {r : Bool} {Q : Signed → Type 0} → std.MatchOption o (r ≡ false) Q → ((n : Signed) → Q n → r ≡ n.negative) → r ≡ below_zero o
+unfolding below_zero
+below_by (std.Some n) h f = f n h
+below_by std.None h f = h
 
-  pub no_sign : number ≡ Not → false ≡ below_zero number
-  unfolding below_zero
-  no_sign e = sym (rw e)
+pub low_by : (o : std.Option Signed) {r d : Signed} → r ≡ unwrap_or o d → d ≡ held false 0 → r ≡ low_of o
+unfolding low_of number_or signed_of
+low_by (std.Some n) h e = h
+low_by std.None h e = h ∙ e
 
-  pub some_low : {n : Signed} → number ≡ Is n → n ≡ low_of number
-  unfolding low_of number_or
-  some_low e = sym (rw e)
-
-  pub no_low : {r : Signed} → number ≡ Not → r ≡ held false 0 → r ≡ low_of number
-  unfolding low_of number_or signed_of
-  no_low e z = z ∙ sym (rw e)
-
-module _ (size : ℕ) (min : Number) {max : Number} where
-  pub some_high : {n : Signed} → max ≡ Is n → n ≡ high_of size min max
-  unfolding high_of number_or
-  some_high e = sym (rw e)
-
-  pub no_high : {b : Bool} {r : Signed} → max ≡ Not → b ≡ below_zero min → r ≡ signed_of (largest b size) → r ≡ high_of size min max
-  unfolding high_of number_or
-  no_high e z y = y ∙ rw (z, e)
+pub high_by : (size : ℕ) (min o : std.Option Signed) {r : Signed} {Q : Type 0} → std.MatchOption o Q (λ x. r ≡ x) → (Q → r ≡ signed_of (largest (below_zero min) size)) → r ≡ high_of size min o
+unfolding high_of number_or
+high_by size min (std.Some n) h f = h
+high_by size min std.None h f = f h
 
 pub largest_held : (range : Range) (b : Bool) (size : ℕ) {r : Signed} → range_high range ≡ largest b size → r ≡ held false range.high → r ≡ signed_of (largest b size)
 unfolding range_high signed_of
 largest_held range b size e z = z ∙ ap signed_of e
 
-pub ruleset bounding = (some_sign, no_sign, some_low, no_low, some_high, no_high, largest_held, rules)
+pub ruleset bounding = (largest_held, rules)
 
 -- ── between them ──
 
-module _ (s : List ℕ) (p : Part) (n : ℕ) (b : Bool) (m : ℕ) {min : Number} {low : Signed} (value : Signed) {t : Bool} (h : Fits w64 m) (e : min ≡ number_of (child_number (ascii "min") (nodes_in s p)))
+module _ (s : List ℕ) (p : Part) (n : ℕ) (b : Bool) (m : ℕ) {min : std.Option Signed} {low : Signed} (value : Signed) {t : Bool} (h : Fits w64 m) (e : min ≡ number_of (child_number (ascii "min") (nodes_in s p)))
     (l : low ≡ low_of min) (v : nearest value ≡ with_sign b m) (k : t ≡ le_z (nearest low) (nearest value)) where
   low_test : t ≡ le_z (bounds_of n (content_in s p)).min (with_sign b m)
   low_test =
@@ -169,7 +158,7 @@ module _ (s : List ℕ) (p : Part) (n : ℕ) (b : Bool) (m : ℕ) {min : Number}
   unfolding within
   below_min f = sym (rw (sym low_test ∙ f))
 
-  module _ {max : Number} {high : Signed} {u : Bool} (f : max ≡ number_of (child_number (ascii "max") (nodes_in s p))) (g : high ≡ high_of n min max) (q : u ≡ le_z (nearest value) (nearest high)) where
+  module _ {max : std.Option Signed} {high : Signed} {u : Bool} (f : max ≡ number_of (child_number (ascii "max") (nodes_in s p))) (g : high ≡ high_of n min max) (q : u ≡ le_z (nearest value) (nearest high)) where
     high_test : u ≡ le_z (with_sign b m) (bounds_of n (content_in s p)).max
     high_test =
         q ∙ ap (λ x. le_z (nearest value) (nearest x)) (g ∙ high_is s p e n f) ∙ ap (λ x. le_z x (nearest (signed_of (bounds_of n (content_in s p)).max))) v

@@ -12,19 +12,16 @@ ghost use Rattle.settings.specs.Contents.{content_in};
 ghost use Rattle.settings.specs.Limits.{below_zero, low_of, high_of};
 
 use children::Part;
-use numbers::{Number, Signed, with_sign};
+use numbers::{Signed, with_sign};
 use numbers_order::is_at_most;
 use rules_bounds::range_of;
 use settings::child_number;
 
 // Is it a number below zero?
-fn is_below_zero(number: Number) -> bool
+fn is_below_zero(number: Option<Signed>) -> bool
     ensures { result ≡ below_zero number }
 {
-    match number {
-        Number::Is(n) => n.negative,
-        Number::Not => false,
-    }
+    number.is_some_and(|n| n.negative)
 }
 
 // Is the int with this content signed? It is exactly if min is there and below zero.
@@ -32,8 +29,7 @@ pub fn is_signed(s: &[u8], part: Part) -> bool
     requires { Inside s.now part }
     ensures { result ≡ is_signed (bound_of (ascii "min") (content_in s.now part)) }
 {
-    let min = child_number(s, part, b"min");
-    is_below_zero(min)
+    is_below_zero(child_number(s, part, b"min"))
 }
 
 // The largest number that an int of this size can store, signed or not.
@@ -46,24 +42,18 @@ fn largest_of(sign: bool, size: usize) -> Signed
 }
 
 // The lower bound: min, or 0 where it is missing.
-fn low_of(min: Number) -> Signed
+fn low_of(min: Option<Signed>) -> Signed
     ensures { result ≡ low_of min }
 {
-    match min {
-        Number::Is(n) => n,
-        Number::Not => with_sign(false, 0),
-    }
+    min.unwrap_or(with_sign(false, 0))
 }
 
 // The upper bound: max, or the largest number that the size can store where it is missing.
-fn high_of(size: usize, min: Number, max: Number) -> Signed
+fn high_of(size: usize, min: Option<Signed>, max: Option<Signed>) -> Signed
     requires { (1 ≤ size) × (size ≤ 8) }
     ensures { result ≡ high_of size min max }
 {
-    match max {
-        Number::Is(m) => m,
-        Number::Not => largest_of(is_below_zero(min), size),
-    }
+    max.unwrap_or_else(|| largest_of(is_below_zero(min), size))
 }
 
 // Does the number lie within the bounds of the int with this content and size?
@@ -73,9 +63,6 @@ pub fn is_in_bounds(s: &[u8], part: Part, size: usize, negative: bool, magnitude
 {
     let value = with_sign(negative, magnitude);
     let min = child_number(s, part, b"min");
-    if is_at_most(low_of(min), value) {
-        let max = child_number(s, part, b"max");
-        return is_at_most(value, high_of(size, min, max));
-    }
-    false
+    is_at_most(low_of(min), value)
+        && is_at_most(value, high_of(size, min, child_number(s, part, b"max")))
 }

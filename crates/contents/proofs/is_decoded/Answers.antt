@@ -1,33 +1,56 @@
-use Prim.Native.Nat.{◌-◌}
-use Rattle.contents.proofs.Decoding.{decoding}
+use Rattle.std.proofs.Common.{refl, ◌∙◌}
+use Rattle.children.proofs.Turning.{walk_here, walk_stands, walk_on, walk_out}
+use Rattle.contents.proofs.Decoding.{decode_out, decode_end, decode_idle, decode_run, not_run, decode_character, not_character, element_start, decode_deep, decode_element}
 use Rattle.contents.proofs.is_decoded.Goals as goal
 
-pub loop-i-preserved-then-goes_on : goal.loop-i-preserved-then-goes_on
-loop-i-preserved-then-goes_on c = search decoding
+pub returns-in_default-behind_word : goal.returns-in_default-behind_word
+returns-in_default-behind_word c =
+    let w = c.loop-place.invariant in
+    let g = c.in-Some.ensures.steps in
+    not_run (walk_here w g) (walk_stands w g) c.in-Run.ensures refl c.in_default-behind_word.ensures
 
-pub returns-else-goes_on : goal.returns-else-goes_on
-returns-else-goes_on c = search decoding
+pub loop-place-preserved-in-Run : goal.loop-place-preserved-in-Run
+loop-place-preserved-in-Run c =
+    let w = c.loop-place.invariant in
+    let g = c.in-Some.ensures.steps in
+    walk_on w g (decode_run (walk_here w g) (walk_stands w g) c.in-Run.ensures refl c.in-Some-behind_word.ensures)
 
-pub returns-then-text-next : goal.returns-then-text-next
-returns-then-text-next c = search decoding
+pub returns-in_default-behind_character : goal.returns-in_default-behind_character
+returns-in_default-behind_character c =
+    let w = c.loop-place.invariant in
+    let g = c.in-Some.ensures.steps in
+    not_character (walk_here w g) (walk_stands w g) c.in-Character.ensures refl c.in_default-behind_character.ensures
 
-pub loop-i-preserved-in-Character : goal.loop-i-preserved-in-Character
-loop-i-preserved-in-Character c = search decoding
+pub loop-place-preserved-in-Character : goal.loop-place-preserved-in-Character
+loop-place-preserved-in-Character c =
+    let w = c.loop-place.invariant in
+    let g = c.in-Some.ensures.steps in
+    walk_on w g (decode_character (walk_here w g) (walk_stands w g) c.in-Character.ensures refl c.in-Some-behind_character.ensures)
 
-pub after-i-requires : goal.after-i-requires
-after-i-requires c = search decoding
+pub after-requires : goal.after-requires
+after-requires c =
+    let w = c.loop-place.invariant in
+    let g = c.in-Some.ensures.steps in
+    let v = walk_stands w g in
+    (v, element_start (walk_here w g) v c.in-Element.ensures refl, decode_deep (walk_here w g) v c.in-Element.ensures)
 
-pub loop-i-preserved-in-Element : goal.loop-i-preserved-in-Element
-loop-i-preserved-in-Element c = search decoding
+pub loop-place-preserved-in-Element : goal.loop-place-preserved-in-Element
+loop-place-preserved-in-Element c =
+    let w = c.loop-place.invariant in
+    let g = c.in-Some.ensures.steps in
+    record { is = decode_element (walk_here w g) (walk_stands w g) c.in-Element.ensures c.after.ensures; content = g.content ∙ w.content }
 
-pub loop-i-preserved-in-Dropped : goal.loop-i-preserved-in-Dropped
-loop-i-preserved-in-Dropped c = search decoding
-
-pub loop-i-preserved : goal.loop-i-preserved
-loop-i-preserved c = search decoding
+pub loop-place-preserved : goal.loop-place-preserved
+loop-place-preserved c =
+    let w = c.loop-place.invariant in
+    let g = c.in-Some.ensures.steps in
+    walk_on w g (decode_idle (walk_here w g) (walk_stands w g) c.role_of.ensures c.in-Dropped.is)
 
 pub returns-in-End : goal.returns-in-End
-returns-in-End c = search decoding
+returns-in-End c =
+    let w = c.loop-place.invariant in
+    let g = c.in-Some.ensures.steps in
+    decode_end (walk_here w g) (walk_stands w g) c.in-End.ensures refl refl
 
 pub returns : goal.returns
-returns c = search decoding
+returns c = decode_out c.loop-place.invariant.is (walk_out c.loop-place.invariant c.in_default.ensures.steps)

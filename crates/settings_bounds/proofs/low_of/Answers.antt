@@ -1,8 +1,5 @@
-use Rattle.settings_bounds.proofs.Bounding.{bounding}
+use Rattle.settings_bounds.proofs.Bounding.{low_by}
 use Rattle.settings_bounds.proofs.low_of.Goals as goal
 
-pub returns-in-Is : goal.returns-in-Is
-returns-in-Is c = search bounding
-
-pub returns-in-Not : goal.returns-in-Not
-returns-in-Not c = search bounding
+pub returns : goal.returns
+returns c = low_by c.args.min c.unwrap_or.ensures c.with_sign.ensures.value
