@@ -8,7 +8,6 @@ use Prim.Native.Nat.{ℕ, ◌+◌, ◌≤◌, ◌<◌}
 use native.Mathlib.Omega.{arith}
 use borrow.Author.Rules.{rules}
 use borrow.Author.Tests.{eq-eqb, ne_eqb}
-use lib.Dec.{eqb}
 use lib.ListN.{length, drop, get_or}
 use Rattle.cdi.specs.Faults.{Fault, fault, lesser, least}
 use Rattle.cdi.specs.Pieces.{Attribute, attributes, bears, twice}
@@ -33,7 +32,7 @@ use Rattle.tags_values.specs.Codes.{code_of, code_in, numbered}
 use Rattle.tags_values.proofs.Numbered.{front_code, behind_code}
 use Rattle.tags_faults.specs.Told.{known_set, has_bit, Coded, faults_at}
 use Rattle.tags_faults.proofs.Ruled.{bit_known}
-use Rattle.tags_wrong.specs.Named.{texts_by, name_by}
+use Rattle.tags_wrong.specs.Named.{name_by}
 use Rattle.tags_wrong.proofs.Naming.{other_none, name_told, in_there}
 
 -- ── codes from a place on ──
