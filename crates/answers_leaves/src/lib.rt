@@ -76,11 +76,7 @@ fn attributes(s: &[u8], from: usize)
     requires { from ≤ length s.now }
 {
     let mut i = from;
-    while i < s.len() {
-        let a = next_attribute(s, i);
-        if a.end <= i {
-            return;
-        }
+    while let Some(a) = next_attribute(s, i) {
         tell(four(
             words::BLANK,
             a.name as u64,

@@ -1,5 +1,5 @@
 -- One answer: any two attributes that the contract of `next_attribute` allows have the same places. The other contracts are equations.
-use mathlib.Core.Path.{◌≡◌, sym, ap, ◌∙◌}
+use mathlib.Core.Path.{◌≡◌, refl, sym, ap, ◌∙◌}
 use mathlib.Core.List.{List}
 use mathlib.Core.Option.{none, some}
 use mathlib.Core.Logic.{⊎_elim}
@@ -7,9 +7,11 @@ use Prim.Native.Nat.{ℕ, ◌≤◌}
 use native.Mathlib.Omega.{arith}
 use borrow.Author.Tests.{eq-eqb, ne_eqb}
 use lib.ListN.{length, drop, length-take, length-drop}
+use Rattle.std.specs.Prelude.{Option, Some, None}
 use Rattle.scan.proofs.Tests.{eq_or_ne}
 use Rattle.pieces_cuts.specs.Places.{part, texts_of, attribute_from, Next}
 use Rattle.pieces_cuts.specs.declared.places.Attribute.{Attribute as Places}
+use Rattle.pieces_attributes.specs.Found.{Follows}
 use Rattle.pieces_cuts.proofs.Once.{same_rest, apart, both}
 
 -- a part's one end is known by its other end and its length
@@ -38,8 +40,8 @@ module _ {s : List ℕ} {at : ℕ} {r : Places} (v : Next s at r) where
   next_some : (r.end ≡ at → ⊥) → attribute_from (drop at s) ≡ some (texts_of s r, drop r.end s)
   next_some e = v.is ∙ rw (ne_eqb r.end at e)
 
-pub next_attribute_once : {s : List ℕ} {at : ℕ} {r q : Places} → Next s at r → Next s at q → r ≡ q
-next_attribute_once {s} {at} {r} {q} v w = ⊎_elim
+pub places_once : {s : List ℕ} {at : ℕ} {r q : Places} → Next s at r → Next s at q → r ≡ q
+places_once {s} {at} {r} {q} v w = ⊎_elim
     (λ a. ⊎_elim (λ b. squeezed a b) (λ b. apart (next_none v a) (next_some w b)) (eq_or_ne q.end at))
     (λ a. ⊎_elim (λ b. apart (next_none w b) (next_some v a)) (λ b. found a b) (eq_or_ne q.end at))
     (eq_or_ne r.end at)
@@ -68,3 +70,9 @@ next_attribute_once {s} {at} {r} {q} v w = ⊎_elim
         let behind : r.behind ≡ q.behind = part_end s r.name q.name r.behind q.behind name o.behind p.behind (omega (arith, o.value, o.close, o.end, o.high)) (omega (arith, p.value, p.close, p.end, p.high)) names in
         let value : r.value ≡ q.value = part_start s r.value q.value r.close q.close close o.close p.close (omega (arith, o.end, o.high)) (omega (arith, p.end, p.high)) values in
         places_path r q name behind value close end
+
+pub next_attribute_once : (s : List ℕ) (at : ℕ) (r q : Option Places) → Follows s at r → Follows s at q → r ≡ q
+next_attribute_once s at None None v w = refl
+next_attribute_once s at None (Some b) v w = apart v (next_some w.0 w.1)
+next_attribute_once s at (Some a) None v w = apart w (next_some v.0 v.1)
+next_attribute_once s at (Some a) (Some b) v w = ap Some (places_once v.0 w.0)

@@ -83,18 +83,23 @@ module _ (s : List ℕ) (i : ℕ) (h : i < length s) where
   unfolding tag_end attribute_from
   tag_step = rw (drop_next s i h) (rw (bind_cond (blank (get_or s i 0)) (attribute_at (after blank (get_or s i 0 ∷ drop (i + 1) s))) (λ a. tag_end (length (drop (i + 1) s) - length a.1) (drop (i + 1) s))))
 
+-- no attribute follows
+module _ (s : List ℕ) (i : ℕ) (n : attribute_from (drop i s) ≡ none) where
+  pub none_left : attributes i 0 (drop i s) ≡ []
+  unfolding attributes
+  none_left = ⊎_elim (λ h. attributes_step s i h ∙ rw n) (λ h. rw (drop_of_length-le s h)) (lt_or_le i (length s))
+
+  tag_none : tag_end 0 (drop i s) ≡ closing (after blank (drop i s))
+  unfolding closing tag_end after begins
+  tag_none = ⊎_elim (λ h. tag_step s i h ∙ rw n) (λ h. rw (drop_of_length-le s h)) (lt_or_le i (length s))
+
 module _ {s : List ℕ} {i : ℕ} {a : Places} (v : Next s i a) where
   module _ (e : a.end ≡ i) where
     none_from : attribute_from (drop i s) ≡ none
     none_from = v.is ∙ rw (eq-eqb _ _ e)
 
     pub no_more : attributes i 0 (drop i s) ≡ []
-    unfolding attributes
-    no_more = ⊎_elim (λ h. attributes_step s i h ∙ rw none_from) (λ h. rw (drop_of_length-le s h)) (lt_or_le i (length s))
-
-    tag_none : tag_end 0 (drop i s) ≡ closing (after blank (drop i s))
-    unfolding closing tag_end after begins
-    tag_none = ⊎_elim (λ h. tag_step s i h ∙ rw none_from) (λ h. rw (drop_of_length-le s h)) (lt_or_le i (length s))
+    no_more = none_left s i none_from
 
   module _ (e : a.end ≡ i → ⊥) where
     some_from : attribute_from (drop i s) ≡ some (texts_of s a, drop a.end s)
@@ -132,10 +137,10 @@ pub record Walking {R : Type 0} (f : List Attribute → R) (s : List ℕ) (at i 
 pub walk : {R : Type 0} (f : List Attribute → R) (s : List ℕ) (at : ℕ) → at ≤ length s → Walking f s at at
 walk f s at h = record { left = refl; high = h }
 
-module _ {R : Type 0} {f : List Attribute → R} {s : List ℕ} {at i : ℕ} {a : Places} (w : Walking f s at i) (v : Next s i a) where
-  walked : a.end ≡ i → f (attributes at 0 (drop at s)) ≡ f []
-  walked e = w.left ∙ ap f (no_more v e)
+walked : {R : Type 0} {f : List Attribute → R} {s : List ℕ} {at i : ℕ} → Walking f s at i → attribute_from (drop i s) ≡ none → f (attributes at 0 (drop at s)) ≡ f []
+walked {f = f} {s = s} {i = i} w n = w.left ∙ ap f (none_left s i n)
 
+module _ {R : Type 0} {f : List Attribute → R} {s : List ℕ} {at i : ℕ} {a : Places} (w : Walking f s at i) (v : Next s i a) where
   walks : (a.end ≡ i → ⊥) → f (attributes at 0 (drop at s)) ≡ f (attribute_of s a ∷ attributes a.end 0 (drop a.end s))
   walks e = w.left ∙ ap f (one_more v e)
 
@@ -143,11 +148,11 @@ module _ {R : Type 0} {f : List Attribute → R} {s : List ℕ} {at i : ℕ} {a 
   onward e q = record { left = walks e ∙ q; high = v.ordered.high }
 
 -- a name looked for
-module _ (n : List ℕ) {s : List ℕ} {at i : ℕ} {a : Places} (w : Walking (any (bears n)) s at i) (v : Next s i a) where
-  pub unnamed : a.end ≡ i → false ≡ any (bears n) (attributes at 0 (drop at s))
-  unfolding any
-  unnamed e = sym (walked w v e)
+pub unnamed : (n : List ℕ) {s : List ℕ} {at i : ℕ} → Walking (any (bears n)) s at i → attribute_from (drop i s) ≡ none → false ≡ any (bears n) (attributes at 0 (drop at s))
+unfolding any
+unnamed n w e = sym (walked w e)
 
+module _ (n : List ℕ) {s : List ℕ} {at i : ℕ} {a : Places} (w : Walking (any (bears n)) s at i) (v : Next s i a) where
   module _ {r : Bool} (e : a.end ≡ i → ⊥) (k : r ≡ same n (part s a.name a.behind)) where
     pub is_it : r ≡ true → true ≡ any (bears n) (attributes at 0 (drop at s))
     unfolding any bears
@@ -160,11 +165,11 @@ module _ (n : List ℕ) {s : List ℕ} {at i : ℕ} {a : Places} (w : Walking (a
 pub ruleset naming = (walk, unnamed, is_it, is_other, less, rules)
 
 -- a name that stands twice
-module _ {s : List ℕ} {at i : ℕ} {a : Places} (w : Walking twice s at i) (v : Next s i a) where
-  pub once : a.end ≡ i → false ≡ twice (attributes at 0 (drop at s))
-  unfolding twice
-  once e = sym (walked w v e)
+pub once : {s : List ℕ} {at i : ℕ} → Walking twice s at i → attribute_from (drop i s) ≡ none → false ≡ twice (attributes at 0 (drop at s))
+unfolding twice
+once w e = sym (walked w e)
 
+module _ {s : List ℕ} {at i : ℕ} {a : Places} (w : Walking twice s at i) (v : Next s i a) where
   module _ {r : Bool} (e : a.end ≡ i → ⊥) (k : r ≡ any (bears (part s a.name a.behind)) (attributes a.end 0 (drop a.end s))) where
     pub again : r ≡ true → true ≡ twice (attributes at 0 (drop at s))
     unfolding twice
@@ -177,11 +182,11 @@ module _ {s : List ℕ} {at i : ℕ} {a : Places} (w : Walking twice s at i) (v 
 pub ruleset doubling = (walk, once, again, not_again, less, rules)
 
 -- a reference in a value
-module _ {s : List ℕ} {at i : ℕ} {a : Places} (w : Walking refers s at i) (v : Next s i a) where
-  pub no_reference : a.end ≡ i → false ≡ refers (attributes at 0 (drop at s))
-  unfolding refers any
-  no_reference e = sym (walked w v e)
+pub no_reference : {s : List ℕ} {at i : ℕ} → Walking refers s at i → attribute_from (drop i s) ≡ none → false ≡ refers (attributes at 0 (drop at s))
+unfolding refers any
+no_reference w e = sym (walked w e)
 
+module _ {s : List ℕ} {at i : ℕ} {a : Places} (w : Walking refers s at i) (v : Next s i a) where
   module _ {r : Bool} (e : a.end ≡ i → ⊥) (k : r ≡ any (eqb 38) (part s a.value a.close)) where
     pub a_reference : r ≡ true → true ≡ refers (attributes at 0 (drop at s))
     unfolding refers any
@@ -202,11 +207,14 @@ pub record Closing (s : List ℕ) (at i : ℕ) : Type 0 where
 pub close_walk : (s : List ℕ) (at : ℕ) → at ≤ length s → Closing s at at
 close_walk s at h = record { left = refl; low = omega arith; high = h }
 
+pub closed : {s : List ℕ} {at i : ℕ} → Closing s at i → attribute_from (drop i s) ≡ none → Closes s at i
+closed {s} {at} {i} w n = record { is = w.left ∙ tag_none s i n; all = none_left s i n; low = w.low; high = w.high }
+
 module _ {s : List ℕ} {at i : ℕ} {a : Places} (w : Closing s at i) (v : Next s i a) where
   pub last_one : a.end ≡ i → Closes s at i
-  last_one e = record { is = w.left ∙ tag_none v e; all = no_more v e; low = w.low; high = w.high }
+  last_one e = closed w (none_from v e)
 
   pub another : (a.end ≡ i → ⊥) → Closing s at a.end
   another e = record { left = w.left ∙ tag_more v e; low = omega (arith, w.low, ahead v e); high = v.ordered.high }
 
-pub ruleset close_loop = (close_walk, last_one, another, less, rules)
+pub ruleset close_loop = (close_walk, closed, another, less, rules)

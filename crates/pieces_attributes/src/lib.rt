@@ -5,7 +5,7 @@ ghost use Rattle.std.specs.Prelude.{◌≡◌, ◌≤◌, length, drop};
 ghost use Rattle.cdi.specs.Lists.{any};
 ghost use Rattle.cdi.specs.Pieces.{is_quote, attributes, bears};
 ghost use Rattle.cdi.specs.Markup.{refers};
-ghost use Rattle.pieces_cuts.specs.Places.{Quoted, Here, Next};
+ghost use Rattle.pieces_attributes.specs.Found.{Value, Placed, Follows};
 
 use pieces_cuts::names::name_end;
 use pieces_cuts::places::Attribute;
@@ -16,88 +16,62 @@ use spans::{blanks, value_rest};
 fn is_quote(b: u8) -> bool
     ensures { result ≡ is_quote b }
 {
-    if b == 34 {
-        return true;
-    }
-    b == 39
+    b == 34 || b == 39
 }
 
-// No attribute: every place is this one.
-fn no_attribute(at: usize) -> Attribute
-    ensures { (result.name ≡ at) × (result.behind ≡ at) × (result.value ≡ at) × (result.close ≡ at) × (result.end ≡ at) }
-{
-    Attribute {
-        name: at,
-        behind: at,
-        value: at,
-        close: at,
-        end: at,
-    }
-}
-
-// The place behind the value whose quote stands at this place, or this place where no value does.
-fn value_end(s: &[u8], at: usize) -> usize
+// The place behind the value whose quote stands at this place.
+fn value_end(s: &[u8], at: usize) -> Option<usize>
     requires { at ≤ length s.now }
-    ensures { Quoted s.now at result }
+    ensures { Value s.now at result }
 {
     if s.len() <= at {
-        return at;
+        return None;
     }
     let quote = s[at];
-    if is_quote(quote) {
-        let close = value_rest(s, at + 1, quote);
-        if s.len() <= close {
-            return at;
-        }
-        if s[close] == quote {
-            return close + 1;
-        }
-        return at;
+    if !is_quote(quote) {
+        return None;
     }
-    at
+    let close = value_rest(s, at + 1, quote);
+    if s.len() <= close || s[close] != quote {
+        return None;
+    }
+    Some(close + 1)
 }
 
-// The attribute whose name stands at this place; its end is this place where none does.
-fn attribute_at(s: &[u8], at: usize) -> Attribute
+// The attribute whose name stands at this place.
+fn attribute_at(s: &[u8], at: usize) -> Option<Attribute>
     requires { at ≤ length s.now }
-    ensures { Here s.now at result }
+    ensures { Placed s.now at result }
 {
     let behind = name_end(s, at);
     if behind == at {
-        return no_attribute(at);
+        return None;
     }
     let equals = blanks(s, behind);
-    if begins_at(s, equals, b"=") {
-        let quote = blanks(s, equals + 1);
-        let end = value_end(s, quote);
-        if end < quote + 2 {
-            return no_attribute(at);
-        }
-        return Attribute {
-            name: at,
-            behind,
-            value: quote + 1,
-            close: end - 1,
-            end,
-        };
+    if !begins_at(s, equals, b"=") {
+        return None;
     }
-    no_attribute(at)
+    let quote = blanks(s, equals + 1);
+    let end = value_end(s, quote)?;
+    Some(Attribute {
+        name: at,
+        behind,
+        value: quote + 1,
+        close: end - 1,
+        end,
+    })
 }
 
-// The next attribute from this place on, which is behind the tag's name or behind an attribute; its end is this place where there is none.
-pub fn next_attribute(s: &[u8], at: usize) -> Attribute
+// The next attribute from this place on, which is behind the tag's name or behind an attribute.
+pub fn next_attribute(s: &[u8], at: usize) -> Option<Attribute>
     requires { at ≤ length s.now }
-    ensures { Next s.now at result }
+    ensures { Follows s.now at result }
 {
     let name = blanks(s, at);
     if name == at {
-        return no_attribute(at);
+        return None;
     }
-    let a = attribute_at(s, name);
-    if a.end == name {
-        return no_attribute(at);
-    }
-    a
+    attribute_at(s, name)
 }
 
 // Has one of the attributes from this place on that name?
@@ -106,19 +80,13 @@ pub fn is_named(s: &[u8], at: usize, name: &[u8]) -> bool
     ensures { result ≡ any (bears name.now) (attributes at 0 (drop at s.now)) }
 {
     let mut i = at;
-    loop {
-        let a = next_attribute(s, i);
-        let end = a.end;
-        if end == i {
-            return false;
-        }
-        let from = a.name;
-        let behind = a.behind;
-        if same(name, &s[from..behind]) {
+    while let Some(a) = next_attribute(s, i) {
+        if same(name, &s[a.name..a.behind]) {
             return true;
         }
-        i = end;
+        i = a.end;
     }
+    false
 }
 
 // Has one of the attributes from this place on a `&` in its value?
@@ -127,17 +95,11 @@ pub fn has_reference(s: &[u8], at: usize) -> bool
     ensures { result ≡ refers (attributes at 0 (drop at s.now)) }
 {
     let mut i = at;
-    loop {
-        let a = next_attribute(s, i);
-        let end = a.end;
-        if end == i {
-            return false;
-        }
-        let value = a.value;
-        let close = a.close;
-        if holds(&s[value..close], b'&') {
+    while let Some(a) = next_attribute(s, i) {
+        if holds(&s[a.value..a.close], b'&') {
             return true;
         }
-        i = end;
+        i = a.end;
     }
+    false
 }

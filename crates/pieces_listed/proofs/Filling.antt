@@ -2,6 +2,7 @@
 use mathlib.Core.Path.{◌≡◌, refl, sym, ◌∙◌}
 use mathlib.Core.List.{List}
 use mathlib.Core.Bool.{Bool, true, false, ◌||◌}
+use mathlib.Core.Option.{none}
 use mathlib.Core.Logic.{◌⊎◌, inl, inr, ⊎_elim}
 use Prim.Native.Nat.{ℕ, ◌+◌, ◌≤◌, ◌<◌}
 use native.Mathlib.Omega.{arith}
@@ -11,9 +12,9 @@ use lib.Seq.{get_or-set_same, get_or-set_other}
 use Rattle.cdi.specs.Lists.{any, same}
 use Rattle.cdi.specs.Pieces.{attributes, bears, twice}
 use Rattle.cdi.proofs.Quiet.{impossible, same_equal}
-use Rattle.pieces_cuts.specs.Places.{part, Next}
+use Rattle.pieces_cuts.specs.Places.{part, attribute_from, Next}
 use Rattle.pieces_cuts.specs.declared.places.Attribute.{Attribute as Places}
-use Rattle.pieces_attributes.proofs.Walking.{no_more, one_more, less as nearer}
+use Rattle.pieces_attributes.proofs.Walking.{none_left, one_more, less as nearer}
 use Rattle.pieces_attributes.specs.Answers.{Shows}
 use Rattle.pieces_order.specs.Orders.{named, Numbers}
 use Rattle.pieces_listed.specs.Tables.{Twins, Holds}
@@ -63,14 +64,14 @@ module _ (s names : List ℕ) (n x : ℕ) (h : n < length names) where
     same = rw (kept j k, get_or-set_same names n x 0 h) e;
   }
 
-module _ {s : List ℕ} {at : ℕ} {names : List ℕ} {n i : ℕ} {a : Places} (w : Filling s at names n i) (v : Next s i a) where
-  pub filled : a.end ≡ i → Holds s at names n
-  unfolding twice any
-  filled e = record { twins = λ h t. ⊎_elim (λ x. x) (λ x. ⊎_elim (λ y. nothing y.index y.there) (λ y. impossible (let z : false ≡ true = rw (no_more v e) at y in cc)) x) (w.back t) }
-    where
-      nothing : (j : ℕ) → any (bears (named s (get_or names j 0))) (attributes i 0 (drop i s)) ≡ true → Twins s names n
-      nothing j q = impossible (let z : false ≡ true = rw (no_more v e) at q in cc)
+pub filled : (s : List ℕ) (at : ℕ) (names : List ℕ) (n i : ℕ) → Filling s at names n i → attribute_from (drop i s) ≡ none → Holds s at names n
+unfolding twice any
+filled s at names n i w e = record { twins = λ h t. ⊎_elim (λ x. x) (λ x. ⊎_elim (λ y. nothing y.index y.there) (λ y. impossible (let z : false ≡ true = rw (none_left s i e) at y in cc)) x) (w.back t) }
+  where
+    nothing : (j : ℕ) → any (bears (named s (get_or names j 0))) (attributes i 0 (drop i s)) ≡ true → Twins s names n
+    nothing j q = impossible (let z : false ≡ true = rw (none_left s i e) at q in cc)
 
+module _ {s : List ℕ} {at : ℕ} {names : List ℕ} {n i : ℕ} {a : Places} (w : Filling s at names n i) (v : Next s i a) where
   module _ (e : a.end ≡ i → ⊥) (x : ℕ) {r : Bool} (h : n < length names) (k : Shows r (Numbers x a.name a.behind)) (t : r ≡ true) where
     this : named s x ≡ part s a.name a.behind
     this = rw ((k.is t).begins, (k.is t).ends)

@@ -15,19 +15,13 @@ pub fn is_plainly_twice(s: &[u8], at: usize) -> bool
     ensures { result ≡ twice (attributes at 0 (drop at s.now)) }
 {
     let mut i = at;
-    loop {
-        let a = next_attribute(s, i);
-        let end = a.end;
-        if end == i {
-            return false;
-        }
-        let from = a.name;
-        let behind = a.behind;
-        if is_named(s, end, &s[from..behind]) {
+    while let Some(a) = next_attribute(s, i) {
+        if is_named(s, a.end, &s[a.name..a.behind]) {
             return true;
         }
-        i = end;
+        i = a.end;
     }
+    false
 }
 
 // Puts the numbers of the names of the attributes from this place on into a table: how many. All of the table where they don't fit, or where a place is
@@ -37,23 +31,16 @@ pub fn fill(s: &[u8], at: usize, names: &mut [usize]) -> usize
     ensures { Holds s.now at names.new result }
 {
     let mut i = at;
-    let mut n: usize = 0;
-    while n < names.len() {
-        let a = next_attribute(s, i);
-        let end = a.end;
-        if end == i {
+    for n in 0..names.len() {
+        let Some(a) = next_attribute(s, i) else {
             return n;
+        };
+        let x = number_of(a.name, a.behind);
+        if !is_number(x, a.name, a.behind) {
+            break;
         }
-        let from = a.name;
-        let behind = a.behind;
-        let x = number_of(from, behind);
-        if is_number(x, from, behind) {
-            names[n] = x;
-            n += 1;
-            i = end;
-        } else {
-            return names.len();
-        }
+        names[n] = x;
+        i = a.end;
     }
     names.len()
 }
@@ -64,17 +51,11 @@ pub fn is_again(s: &[u8], at: usize, place: usize) -> bool
     ensures { Shows result (twice (attributes at 0 (drop at s.now)) ≡ true) }
 {
     let mut i = at;
-    loop {
-        let a = next_attribute(s, i);
-        let end = a.end;
-        if end == i {
-            return false;
+    while let Some(a) = next_attribute(s, i) {
+        if a.name == place {
+            return is_named(s, a.end, &s[a.name..a.behind]);
         }
-        let from = a.name;
-        let behind = a.behind;
-        if from == place {
-            return is_named(s, end, &s[from..behind]);
-        }
-        i = end;
+        i = a.end;
     }
+    false
 }

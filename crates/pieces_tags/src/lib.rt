@@ -45,14 +45,10 @@ fn attributes_end(s: &[u8], at: usize) -> usize
     ensures { Closes s.now at result }
 {
     let mut i = at;
-    loop {
-        let a = next_attribute(s, i);
-        let end = a.end;
-        if end == i {
-            return i;
-        }
-        i = end;
+    while let Some(a) = next_attribute(s, i) {
+        i = a.end;
     }
+    i
 }
 
 // Have the attributes from this place to before `last` room for so many that a table of their names pays? 8 have at least 40 bytes. Nothing rests on it.

@@ -10,7 +10,7 @@ use Rattle.names.specs.Names.{attribute_number}
 use Rattle.scan.proofs.Tests.{eq_or_ne}
 use Rattle.pieces_cuts.specs.Places.{part, Next}
 use Rattle.pieces_cuts.specs.declared.places.Attribute.{Attribute as Places}
-use Rattle.pieces_attributes.proofs.Once.{next_attribute_once}
+use Rattle.pieces_attributes.proofs.Once.{places_once}
 use Rattle.tags_spots.specs.Spots.{places_of, Tells}
 use Rattle.tags_spots.specs.declared.Spot.{Spot}
 
@@ -22,7 +22,7 @@ next_spot_once {s} {at} {q} {r} v x w y =
     ap (λ n. spot (places_of q) n q.refers) number ∙ ap (spot (places_of q) r.number) refers ∙ ap (λ p. spot p r.number r.refers) places
   where
     places : places_of q ≡ places_of r
-    places = next_attribute_once v w
+    places = places_once v w
 
     ends : q.end ≡ r.end
     ends = ap (λ (p : Places). p.end) places

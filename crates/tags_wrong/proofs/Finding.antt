@@ -8,7 +8,6 @@ use Prim.Native.Nat.{ℕ, ◌+◌, ◌≤◌, ◌<◌}
 use native.Mathlib.Omega.{arith}
 use borrow.Author.Rules.{rules}
 use borrow.Author.Tests.{eq-eqb, ne_eqb}
-use lib.Dec.{eqb}
 use lib.ListN.{length, drop, get_or}
 use Rattle.cdi.specs.Faults.{Fault, fault, lesser, least}
 use Rattle.cdi.specs.Pieces.{Attribute, attributes, bears, twice}
@@ -23,9 +22,9 @@ use Rattle.keys.specs.Keys.{fault_in}
 use Rattle.keys.proofs.Keying.{no_fault}
 use Rattle.names.specs.Names.{attribute_number}
 use Rattle.names.proofs.Positions.{attribute_high}
-use Rattle.pieces_cuts.specs.Places.{part, attribute_of, Next}
+use Rattle.pieces_cuts.specs.Places.{part, attribute_of, attribute_from, Next}
 use Rattle.pieces_cuts.specs.declared.places.Attribute.{Attribute as Places}
-use Rattle.pieces_attributes.proofs.Walking.{no_more, one_more, less}
+use Rattle.pieces_attributes.proofs.Walking.{none_left, one_more, less}
 use Rattle.rules_judge.specs.Judging.{row_at}
 use Rattle.rules_judge.specs.Tables.{rule_at, is_one_of}
 use Rattle.rules_judge.specs.Tables as T
@@ -33,42 +32,8 @@ use Rattle.tags_values.specs.Codes.{code_of, code_in, numbered}
 use Rattle.tags_values.proofs.Numbered.{front_code, behind_code}
 use Rattle.tags_faults.specs.Told.{known_set, has_bit, Coded, faults_at}
 use Rattle.tags_faults.proofs.Ruled.{bit_known}
-use Rattle.tags_wrong.specs.Named.{texts_by, name_by}
+use Rattle.tags_wrong.specs.Named.{name_by}
 use Rattle.tags_wrong.proofs.Naming.{other_none, name_told, in_there}
-
--- ── a wrong text ──
-
-module _ (e : ℕ) (codes : List ℕ) where
-  pub of_cdi : e ≡ 1 → (eqb (get_or codes 1 0) 87 || eqb (get_or codes 2 0) 87) ≡ texts_by e codes
-  unfolding texts_by
-  of_cdi q = rw (eq-eqb e 1 q)
-
-  pub of_float : (e ≡ 1 → ⊥) → e ≡ 9 → eqb (get_or codes 10 0) 87 ≡ texts_by e codes
-  unfolding texts_by
-  of_float p q = rw (ne_eqb e 1 p, eq-eqb e 9 q)
-
-  pub of_others : (e ≡ 1 → ⊥) → (e ≡ 9 → ⊥) → false ≡ texts_by e codes
-  unfolding texts_by
-  of_others p q = rw (ne_eqb e 1 p, ne_eqb e 9 q)
-
-pub ruleset wrong_texts = (of_cdi, of_float, of_others, rules)
-
--- ── one attribute ──
-
-module _ (code : ℕ) {known : Bool} where
-  pub wrong_text : known ≡ true → code ≡ 87 → 87 ≡ name_by known code
-  unfolding name_by
-  wrong_text k f = rw (k, eq-eqb code 87 f)
-
-  pub right_text : known ≡ true → (code ≡ 87 → ⊥) → 0 ≡ name_by known code
-  unfolding name_by
-  right_text k f = rw (k, ne_eqb code 87 f)
-
-  pub unknown_name : known ≡ false → 85 ≡ name_by known code
-  unfolding name_by
-  unknown_name k = rw k
-
-pub ruleset one_wrong = (wrong_text, right_text, unknown_name, rules)
 
 -- ── codes from a place on ──
 
@@ -122,11 +87,12 @@ index_high name p q = omega (arith, p, q, attribute_high name)
 pub name_high : {s : List ℕ} {i : ℕ} {a : Places} → length s ≤ 65535 → Next s i a → a.name ≤ 65535
 name_high l v = let o = v.ordered in omega (arith, l, o.behind, o.value, o.close, o.end, o.high)
 
-module _ {s : List ℕ} {at e set i : ℕ} {codes : List ℕ} {a : Places} (w : Seeking s at e set codes i) (v : Next s i a) where
-  pub none_found : a.end ≡ i → fault_in 0xFFFF_FFFF_FFFF_FFFF ≡ least (names_faults (row_at e).attributes (attributes at 0 (drop at s)))
-  unfolding names_faults least
-  none_found z = no_fault 0xFFFF_FFFF_FFFF_FFFF refl ∙ sym (w.left ∙ rw (no_more v z))
+pub none_found : {s : List ℕ} {at e set i : ℕ} {codes : List ℕ} → Seeking s at e set codes i → attribute_from (drop i s) ≡ none
+    → fault_in 0xFFFF_FFFF_FFFF_FFFF ≡ least (names_faults (row_at e).attributes (attributes at 0 (drop at s)))
+unfolding names_faults least
+none_found {s} {at} {e} {set} {i} w n = no_fault 0xFFFF_FFFF_FFFF_FFFF refl ∙ sym (w.left ∙ rw (none_left s i n))
 
+module _ {s : List ℕ} {at e set i : ℕ} {codes : List ℕ} {a : Places} (w : Seeking s at e set codes i) (v : Next s i a) where
   module _ (z : a.end ≡ i → ⊥) {n k : ℕ} {t : Bool} (p : n ≡ attribute_number (part s a.name a.behind)) (q : k ≡ n) (h : t ≡ has_bit set n) where
     abbrev xs : List Attribute
     xs = attributes a.end 0 (drop a.end s)

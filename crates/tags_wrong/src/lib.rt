@@ -21,37 +21,29 @@ const SCHEMA: usize = 2;
 
 const FORMATTING: usize = 10;
 
-fn wide(number: u8) -> usize
-    ensures { result ≡ number }
-{
-    number as usize
-}
-
 // Is a text wrong? By the codes of a tag's values; texts are those of cdi and of a float.
+#[tactic(auto, unfolding(crate::specs::Named::texts_by))]
 pub fn is_text_wrong(element: u8, codes: &[u8; 11]) -> bool
     ensures { result ≡ texts_by element codes.now }
 {
-    if element == 1 {
-        return (codes[NAMESPACE] == 87) | (codes[SCHEMA] == 87);
+    match element {
+        1 => codes[NAMESPACE] == 87 || codes[SCHEMA] == 87,
+        9 => codes[FORMATTING] == 87,
+        _ => false,
     }
-    if element == 9 {
-        return codes[FORMATTING] == 87;
-    }
-    false
 }
 
 // The fault of an attribute by the code of its value: it is unknown, or its text is wrong; else 0.
+#[tactic(auto, unfolding(crate::specs::Named::name_by))]
 fn fault_at(known: bool, code: u8) -> u8
     ensures value { result ≡ name_by known code }
     ensures bounds { result < 128 }
 {
-    if known {
-        if code == 87 {
-            return 87;
-        }
-        return 0;
+    match (known, code) {
+        (false, _) => 85,
+        (true, 87) => 87,
+        (true, _) => 0,
     }
-    85
 }
 
 // The fault of the first wrong attribute from this place on in a tag of that element, as a key. No name stands twice there, so that the codes are those
@@ -62,20 +54,13 @@ pub fn first_wrong(s: &[u8], at: usize, element: u8, codes: &[u8; 11]) -> usize
 {
     let set = known_to(element);
     let mut i = at;
-    loop {
-        let a = next_attribute(s, i);
-        let end = a.end;
-        if end == i {
-            return NOTHING;
-        }
-        let name = a.name;
-        let behind = a.behind;
-        let n = attribute_number(&s[name..behind]);
-        let k = wide(n);
-        let fault = fault_at(is_among(set, n), codes[k]);
+    while let Some(a) = next_attribute(s, i) {
+        let n = attribute_number(&s[a.name..a.behind]);
+        let fault = fault_at(is_among(set, n), codes[usize::from(n)]);
         if fault != 0 {
-            return key_of(wide(fault), name);
+            return key_of(usize::from(fault), a.name);
         }
-        i = end;
+        i = a.end;
     }
+    NOTHING
 }

@@ -1,0 +1,10 @@
+use Rattle.std.proofs.Common.{◌-◌, length}
+use Rattle.cdi.specs.Pieces.{twice}
+use Rattle.pieces_attributes.proofs.Walking.{Walking}
+use Rattle.pieces_listed.proofs.is_plainly_twice.Given as goal
+
+abbrev pub invariant-loop-a : goal.invariant-loop-a
+invariant-loop-a l = Walking twice l.s l.at l.i
+
+abbrev pub decreases-loop-a : goal.decreases-loop-a
+decreases-loop-a l = length l.s - l.i
