@@ -65,7 +65,7 @@ pub fn is_digit(b: u8) -> bool
 pub fn is_name_start(b: u8) -> bool
     ensures { result ≡ name_start b }
 {
-    matches!(b, 97..=122 | 65..=90 | 95 | 58)
+    matches!(b, 97..=122) || matches!(b, 65..=90) || b == 95 || b == 58
 }
 
 #[tactic(auto, unfolding(cdi::specs::Pieces::name_byte))]
@@ -86,7 +86,7 @@ fn is_text(b: u8) -> bool
 fn is_hex_digit(b: u8) -> bool
     ensures { result ≡ hex_digit b }
 {
-    is_digit(b) || matches!(b, 65..=70 | 97..=102)
+    is_digit(b) || matches!(b, 65..=70) || matches!(b, 97..=102)
 }
 
 #[tactic(auto, unfolding(cdi::specs::Pieces::value_byte))]

@@ -54,10 +54,17 @@ module _ {p : ℕ → Bool} {s : List ℕ} {at k : ℕ} where
   pub cut_to : {m : ℕ} → AllOf p s at k → m ≤ k → AllOf p s at m
   cut_to v h = record { each = λ j a b. v.each j a (omega arith) }
 
+module _ {p : ℕ → Bool} {s : List ℕ} {at : ℕ} where
+  pub none_tested : true ≡ true → AllOf p s at (at + 0)
+  none_tested e = record { each = λ j h k. absurd (omega arith) }
+
   -- bytes of which all are good so far
-  pub grown_good : (good : Bool) {t : Bool} → (good ≡ true → AllOf p s at k) → t ≡ p (get_or s k 0) → (good && t) ≡ true → AllOf p s at (k + 1)
-  grown_good true v e f = grown (v refl) e f
-  grown_good false v e f = impossible (cc)
+  pub grown_good : (k : ℕ) (good : Bool) {t : Bool} → (good ≡ true → AllOf p s at (at + k)) → t ≡ p (get_or s (at + k) 0) → (good && t) ≡ true → AllOf p s at (at + (k + 1))
+  grown_good k true v e f = let is : at + k + 1 ≡ at + (k + 1) = omega arith in subst (AllOf p s at) is (grown (v refl) e f)
+  grown_good k false v e f = impossible (cc)
+
+  pub all_good : {k : ℕ} → AllOf p s at (at + k) → 8 ≤ k → AllOf p s at (at + 8)
+  all_good v h = cut_to v (omega arith)
 
 -- ── tests without branches ──
 

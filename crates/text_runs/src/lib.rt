@@ -64,8 +64,8 @@ fn all_of_eight<T: Test>(s: &[u8], at: usize) -> bool
     ensures { result ≡ true → AllOf T.passing s.now at (at + 8) }
 {
     let mut good = true;
-    for k in at..at + STEP {
-        good &= T::passes(s[k]);
+    for k in 0..STEP {
+        good &= T::passes(s[at + k]);
     }
     good
 }
