@@ -20,6 +20,10 @@ use Rattle.children.specs.declared.Part.TheVariants.{Missing, Empty, From}
 abbrev pub ahead : List ℕ → ℕ → List Nodes
 ahead s at = levels (from s at)
 
+-- a place in the content, at a level that an end tag closes
+abbrev pub InLevel : List ℕ → ℕ → Type 0
+InLevel s at = (at ≤ length s) × (2 ≤ length (ahead s at))
+
 unfoldable pub turn_of : Kind → Bool → Turn
 turn_of Start short = cond short Stays Opens
 turn_of Finish short = Closes
@@ -69,7 +73,7 @@ nodes_in s (From q) = some (here s q)
 unfoldable pub Inside : List ℕ → Part → Type 0
 Inside s Missing = Unit
 Inside s Empty = Unit
-Inside s (From q) = (q ≤ length s) × (2 ≤ length (ahead s q))
+Inside s (From q) = InLevel s q
 
 pub record Named (s : List ℕ) (at : ℕ) (n : List ℕ) (r : Part) : Type 0 where
   pub is : nodes_in s r ≡ child_of n (here s at)

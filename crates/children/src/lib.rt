@@ -8,7 +8,7 @@ ghost use Rattle.pieces_cuts.specs.Cuts.{Stands};
 ghost use Rattle.pieces_cuts.specs.declared.Kind.TheVariants.{Start};
 ghost use Rattle.cdi.specs.Lists.{same as same_bytes};
 ghost use Rattle.levels.specs.Ahead.{name_in};
-ghost use Rattle.children.specs.Siblings.{ahead, turn_of, Behind, NextChild, Passed, part_of, Named};
+ghost use Rattle.children.specs.Siblings.{ahead, InLevel, turn_of, Behind, NextChild, Passed, part_of, Named};
 
 use pieces::piece_at;
 use pieces_cuts::{Cut, Kind};
@@ -77,7 +77,7 @@ fn turn_of(kind: Kind, short: bool) -> Turn
 
 // The place behind the end tag that closes the level of this place.
 pub fn behind(s: &[u8], at: usize) -> usize
-    requires { (at ≤ length s.now) × (2 ≤ length (ahead s.now at)) }
+    requires { InLevel s.now at }
     ensures { Behind s.now at result }
 {
     let mut depth: usize = 0;
@@ -92,21 +92,21 @@ pub fn behind(s: &[u8], at: usize) -> usize
     s.len()
 }
 
-// The place behind the element whose start tag stands at this place.
-pub fn after(s: &[u8], at: usize, tag: Cut) -> usize
-    requires { (Stands s.now at tag) × (tag.kind ≡ Start) × (2 ≤ length (ahead s.now at)) }
-    ensures { Passed s.now at tag result }
+// The place behind the element whose start tag this is.
+pub fn after(s: &[u8], child: Placed) -> usize
+    requires { (Stands s.now child.place child.cut) × (child.cut.kind ≡ Start) × (2 ≤ length (ahead s.now child.place)) }
+    ensures { Passed s.now child.place child.cut result }
 {
-    if tag.short {
-        tag.end
+    if child.cut.short {
+        child.cut.end
     } else {
-        behind(s, tag.end)
+        behind(s, child.cut.end)
     }
 }
 
 // The next child at the level of this place.
 pub fn next_child(s: &[u8], at: usize) -> Option<Placed>
-    requires { (at ≤ length s.now) × (2 ≤ length (ahead s.now at)) }
+    requires { InLevel s.now at }
     ensures { NextChild s.now at result }
 {
     for piece in (Pieces { content: s, at }) {
@@ -120,11 +120,11 @@ pub fn next_child(s: &[u8], at: usize) -> Option<Placed>
 }
 
 // Has the tag this name?
-pub fn is_named(s: &[u8], at: usize, tag: Cut, name: &[u8]) -> bool
-    requires { Stands s.now at tag }
-    ensures { result ≡ same_bytes name.now (name_in s.now tag) }
+pub fn is_named(s: &[u8], child: Placed, name: &[u8]) -> bool
+    requires { Stands s.now child.place child.cut }
+    ensures { result ≡ same_bytes name.now (name_in s.now child.cut) }
 {
-    same(name, &s[tag.name..tag.behind])
+    same(name, &s[child.cut.name..child.cut.behind])
 }
 
 // The content of the element with this start tag.
@@ -141,15 +141,15 @@ pub fn part_of(tag: Cut) -> Part
 
 // The content of the first child of this name at the level of this place.
 pub fn content_of(s: &[u8], at: usize, name: &[u8]) -> Part
-    requires { (at ≤ length s.now) × (2 ≤ length (ahead s.now at)) }
+    requires { InLevel s.now at }
     ensures { Named s.now at name.now result }
 {
     let mut i = at;
-    while let Some(Placed { place, cut: tag }) = next_child(s, i) {
-        if is_named(s, place, tag, name) {
-            return part_of(tag);
+    while let Some(child) = next_child(s, i) {
+        if is_named(s, child, name) {
+            return part_of(child.cut);
         }
-        i = after(s, place, tag);
+        i = after(s, child);
     }
     Part::Missing
 }

@@ -9,7 +9,7 @@ ghost use Rattle.cdi.specs.Access.{decoded as decoded_text};
 ghost use Rattle.pieces_characters.specs.Characters.{utf8_of};
 ghost use Rattle.numbers.specs.Held.{number_of};
 ghost use Rattle.levels.specs.Ahead.{here};
-ghost use Rattle.children.specs.Siblings.{ahead};
+ghost use Rattle.children.specs.Siblings.{InLevel};
 ghost use Rattle.contents.specs.Own.{role_of, is_end, Told, behind_of};
 
 use children::{Pieces, Placed, after};
@@ -45,7 +45,7 @@ fn role_of(kind: Kind) -> Role
 
 // Is nothing to come at the level of this place?
 fn is_end(s: &[u8], at: usize) -> bool
-    requires { (at ≤ length s.now) × (2 ≤ length (ahead s.now at)) }
+    requires { InLevel s.now at }
     ensures { result ≡ is_end (here s.now at) }
 {
     for piece in (Pieces { content: s, at }) {
@@ -60,7 +60,7 @@ fn is_end(s: &[u8], at: usize) -> bool
 
 // The one run of text that is to come at the level of this place, and nothing else.
 pub fn own_text(s: &[u8], at: usize) -> Option<&[u8]>
-    requires { (at ≤ length s.now) × (2 ≤ length (ahead s.now at)) }
+    requires { InLevel s.now at }
     ensures { Told s.now at result }
 {
     for Placed { place, cut } in (Pieces { content: s, at }) {
@@ -75,7 +75,7 @@ pub fn own_text(s: &[u8], at: usize) -> Option<&[u8]>
 
 // The number that the one run of text is.
 pub fn own_number(s: &[u8], at: usize) -> Option<Signed>
-    requires { (at ≤ length s.now) × (2 ≤ length (ahead s.now at)) }
+    requires { InLevel s.now at }
     ensures { result ≡ number_of (own_number (here s.now at)) }
 {
     read_number(own_text(s, at)?)
@@ -104,26 +104,26 @@ fn behind_character(code: u32, text: &[u8], k: usize) -> Option<usize>
 
 // Is the text what is to come at the level of this place, with its references decoded, and its comments and instructions dropped?
 pub fn is_decoded(s: &[u8], at: usize, text: &[u8]) -> bool
-    requires { (at ≤ length s.now) × (2 ≤ length (ahead s.now at)) }
+    requires { InLevel s.now at }
     ensures { result ≡ same_bytes text.now (decoded_text (here s.now at)) }
 {
     let mut pieces = Pieces { content: s, at };
     let mut k: usize = 0;
-    while let Some(Placed { place, cut }) = pieces.next() {
-        match role_of(cut.kind) {
+    while let Some(piece) = pieces.next() {
+        match role_of(piece.cut.kind) {
             Role::Run => {
-                let Some(next) = behind_word(&s[place..cut.end], text, k) else {
+                let Some(next) = behind_word(&s[piece.place..piece.cut.end], text, k) else {
                     return false;
                 };
                 k = next;
             }
             Role::Character => {
-                let Some(next) = behind_character(cut.code, text, k) else {
+                let Some(next) = behind_character(piece.cut.code, text, k) else {
                     return false;
                 };
                 k = next;
             }
-            Role::Element => pieces.at = after(s, place, cut),
+            Role::Element => pieces.at = after(s, piece),
             Role::Dropped | Role::Nothing => {}
             Role::End => return k == text.len(),
         }

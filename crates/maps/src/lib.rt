@@ -8,13 +8,12 @@ ghost use Rattle.cdi.specs.Access.{equals, properties};
 ghost use Rattle.pieces_cuts.specs.Cuts.{Stands};
 ghost use Rattle.pieces_cuts.specs.declared.Kind.TheVariants.{Start};
 ghost use Rattle.levels.specs.Ahead.{name_in, here};
-ghost use Rattle.children.specs.Siblings.{ahead, content_of, nodes_in, Inside};
+ghost use Rattle.children.specs.Siblings.{ahead, InLevel, content_of, nodes_in, Inside};
 ghost use Rattle.maps.specs.Matches.{wanted_of, match_of, no_nodes};
 
 use children::{Part, Placed, after, content_of, is_named, next_child};
 use contents::{is_decoded, own_number};
 use numbers_order::is_equal;
-use pieces_cuts::Cut;
 
 // What a property is to equal: an integer, an event ID, which equals none, or the text that is handed in beside it.
 #[derive(Clone, Copy)]
@@ -26,7 +25,7 @@ pub enum Wanted {
 
 // Does the content from this place on equal it?
 fn is_content(s: &[u8], at: usize, wanted: Wanted, text: &[u8]) -> bool
-    requires { (at ≤ length s.now) × (2 ≤ length (ahead s.now at)) }
+    requires { InLevel s.now at }
     ensures { result ≡ equals (wanted_of wanted text.now) (here s.now at) }
 {
     match wanted {
@@ -65,24 +64,24 @@ fn is_property(s: &[u8], part: Part, wanted: Wanted, text: &[u8]) -> bool
 }
 
 // Is the element with this start tag a relation whose property equals it?
-fn is_match(s: &[u8], at: usize, tag: Cut, wanted: Wanted, text: &[u8]) -> bool
-    requires { (Stands s.now at tag) × (tag.kind ≡ Start) × (2 ≤ length (ahead s.now at)) }
-    ensures { result ≡ match_of (equals (wanted_of wanted text.now)) (name_in s.now tag) (content_of s.now tag) }
+fn is_match(s: &[u8], child: Placed, wanted: Wanted, text: &[u8]) -> bool
+    requires { (Stands s.now child.place child.cut) × (child.cut.kind ≡ Start) × (2 ≤ length (ahead s.now child.place)) }
+    ensures { result ≡ match_of (equals (wanted_of wanted text.now)) (name_in s.now child.cut) (content_of s.now child.cut) }
 {
-    is_named(s, at, tag, b"relation")
-        && !tag.short
-        && is_property(s, content_of(s, tag.end, b"property"), wanted, text)
+    is_named(s, child, b"relation")
+        && !child.cut.short
+        && is_property(s, content_of(s, child.cut.end, b"property"), wanted, text)
 }
 
 // Does one of the properties at the level of this place, which is in a map, equal it?
 pub fn is_listed(s: &[u8], at: usize, wanted: Wanted, text: &[u8]) -> bool
-    requires { (at ≤ length s.now) × (2 ≤ length (ahead s.now at)) }
+    requires { InLevel s.now at }
     ensures { result ≡ any (equals (wanted_of wanted text.now)) (properties (here s.now at)) }
 {
     let mut i = at;
-    while let Some(Placed { place, cut: tag }) = next_child(s, i) {
-        let end = after(s, place, tag);
-        if is_match(s, place, tag, wanted, text) {
+    while let Some(child) = next_child(s, i) {
+        let end = after(s, child);
+        if is_match(s, child, wanted, text) {
             return true;
         }
         i = end;

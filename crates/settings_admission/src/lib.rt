@@ -17,12 +17,7 @@ pub fn has_map(s: &[u8], part: Part) -> bool
     requires { Inside s.now part }
     ensures { result ≡ has_map (content_in s.now part) }
 {
-    let map = child_in(s, part, b"map");
-    match map {
-        Part::Missing => false,
-        Part::Empty => true,
-        Part::From(_) => true,
-    }
+    !matches!(child_in(s, part, b"map"), Part::Missing)
 }
 
 // Is there no map in this content, or does one of the map's properties equal the value?
@@ -30,8 +25,7 @@ pub fn is_admitted(s: &[u8], part: Part, wanted: Wanted, text: &[u8]) -> bool
     requires { Inside s.now part }
     ensures { result ≡ given (child_of (ascii "map") (content_in s.now part)) true (λ m. any (equals (wanted_of wanted text.now)) (properties m)) }
 {
-    let map = child_in(s, part, b"map");
-    match map {
+    match child_in(s, part, b"map") {
         Part::Missing => true,
         Part::Empty => false,
         Part::From(at) => is_listed(s, at, wanted, text),

@@ -8,10 +8,10 @@ pub is_match-requires : goal.is_match-requires
 is_match-requires c = search (listings, c.in-Some.ensures)
 
 pub returns-then-is_match : goal.returns-then-is_match
-returns-then-is_match c = list_found c.loop-place.invariant c.in-Some.ensures c.is_match.ensures c.after-end.ensures c.if-is_match.true
+returns-then-is_match c = list_found c.loop-child.invariant c.in-Some.ensures c.is_match.ensures c.after-end.ensures c.if-is_match.true
 
-pub loop-place-preserved : goal.loop-place-preserved
-loop-place-preserved c = list_on c.loop-place.invariant c.in-Some.ensures c.is_match.ensures c.after-end.ensures c.if-is_match.false
+pub loop-child-preserved : goal.loop-child-preserved
+loop-child-preserved c = list_on c.loop-child.invariant c.in-Some.ensures c.is_match.ensures c.after-end.ensures c.if-is_match.false
 
 pub returns : goal.returns
-returns c = list_none c.loop-place.invariant c.in_default.ensures
+returns c = list_none c.loop-child.invariant c.in_default.ensures
