@@ -20,6 +20,7 @@ const FIRST_PLACE: u64 = FIRST_LINE as u64;
 const LAST_PLACE: u64 = 65534;
 
 // Whether number `which` of record `i` lies from `least` to `most`.
+#[tactic(auto, using(locate_rows::proofs::Numbers::lies_law))]
 fn lies(table: &[i64], i: usize, which: usize, least: u64, most: u64) -> bool
     requires { (i * 8 + 8 ≤ length table.now) × (which < 8) }
     ensures { result ≡ within (pos least) (pos most) (field table.now i which) }
@@ -30,6 +31,7 @@ fn lies(table: &[i64], i: usize, which: usize, least: u64, most: u64) -> bool
 }
 
 // Whether number `which` of record `i` is `number`.
+#[tactic(auto, using(locate_rows::proofs::Numbers::equals_law))]
 pub fn equals(table: &[i64], i: usize, which: usize, number: u64) -> bool
     requires { (i * 8 + 8 ≤ length table.now) × (which < 8) }
     ensures { result ≡ same_number (field table.now i which) (pos number) }
@@ -40,6 +42,7 @@ pub fn equals(table: &[i64], i: usize, which: usize, number: u64) -> bool
 }
 
 // "a float's 2, 4 or 8"
+#[tactic(auto, unfolding(cdi::specs::Plans::one_of, cdi::specs::Lists::any))]
 fn float_size(table: &[i64], i: usize) -> bool
     requires { i * 8 + 8 ≤ length table.now }
     ensures { result ≡ one_of (2 ∷ 4 ∷ 8 ∷ []) (field table.now i 3) }
@@ -48,6 +51,7 @@ fn float_size(table: &[i64], i: usize) -> bool
 }
 
 // "An int's size is exactly the text 1, 2, 4 or 8"
+#[tactic(auto, unfolding(cdi::specs::Plans::one_of, cdi::specs::Lists::any))]
 fn int_size(table: &[i64], i: usize) -> bool
     requires { i * 8 + 8 ≤ length table.now }
     ensures { result ≡ one_of (1 ∷ 2 ∷ 4 ∷ 8 ∷ []) (field table.now i 3) }
@@ -56,6 +60,7 @@ fn int_size(table: &[i64], i: usize) -> bool
 }
 
 // Whether the kind is that of a data element, and the size is one of it.
+#[tactic(auto, using(locate_rows::proofs::Numbers::only), unfolding(cdi::specs::Plans::size_fits))]
 fn size_fits(table: &[i64], i: usize) -> bool
     requires { i * 8 + 8 ≤ length table.now }
     ensures { result ≡ size_fits (natural (field table.now i 0)) (field table.now i 3) }
@@ -71,6 +76,7 @@ fn size_fits(table: &[i64], i: usize) -> bool
 }
 
 // Whether the offset is a 32-bit signed number.
+#[tactic(auto, using(locate_rows::proofs::Numbers::offset_law))]
 fn offset_fits(table: &[i64], i: usize) -> bool
     requires { i * 8 + 8 ≤ length table.now }
     ensures { result ≡ offset_fits (field table.now i 2) }
@@ -103,6 +109,7 @@ fn rises(table: &[i64], i: usize) -> bool
 }
 
 // Whether the place is one of content behind the first line, and behind the place before it.
+#[tactic(auto, unfolding(cdi::specs::Plans::place_fits))]
 fn place_fits(table: &[i64], i: usize) -> bool
     requires { i * 8 + 8 ≤ length table.now }
     ensures { result ≡ place_fits table.now i }
@@ -124,6 +131,7 @@ fn next_fits(table: &[i64], i: usize, end: usize) -> bool
 }
 
 // Whether the record is one of a data element whose parent's subtree ends at `end`.
+#[tactic(auto, unfolding(cdi::specs::Plans::item_fits))]
 pub fn item_fits(table: &[i64], i: usize, end: usize) -> bool
     requires { i * 8 + 8 ≤ length table.now }
     ensures { result ≡ item_fits table.now i end }
@@ -136,6 +144,7 @@ pub fn item_fits(table: &[i64], i: usize, end: usize) -> bool
 }
 
 // Whether the record is one of a segment in a table of `end` records.
+#[tactic(auto, using(locate_rows::proofs::Numbers::only), unfolding(cdi::specs::Plans::segment_fits, cdi::specs::Plans::replication_fits, cdi::specs::Plans::next_fits))]
 pub fn segment_fits(table: &[i64], i: usize, end: usize) -> bool
     requires { i * 8 + 8 ≤ length table.now }
     ensures { result ≡ segment_fits table.now i end }
