@@ -10,14 +10,14 @@ returns-then-depth-gt-DEEPEST t c = search testing
 pub returns-then-not-item_fits : goal.returns-then-not-item_fits
 returns-then-not-item_fits t c = search testing
 
-pub returns-in_default : goal.returns-in_default
-returns-in_default t c = search testing
+pub returns-in_none-members : goal.returns-in_none-members
+returns-in_none-members t c = search testing
 
-pub added-more-requires : goal.added-more-requires
-added-more-requires t c = search entering
+pub added-requires : goal.added-requires
+added-requires t c = search entering
 
-pub returns-in_default-more : goal.returns-in_default-more
-returns-in_default-more t c = search testing
+pub returns-in_none-added : goal.returns-in_none-added
+returns-in_none-added t c = search testing
 
 pub loop-i-preserved : goal.loop-i-preserved
 loop-i-preserved t c = search testing
