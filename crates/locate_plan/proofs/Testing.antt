@@ -241,24 +241,22 @@ module _ {t : List ℤ} {d from end i : ℕ} {before : Extent} (v : TestedTo t d
 
 pub ruleset testing = (start, done, too_deep, unfit, members_bad, element_bad, onward, nots, rules)
 
-pub fit : (t : List ℤ) (i e : ℕ) {R : Bool} → R ≡ item_fits t i e → R ≡ true → item_fits t i e ≡ true
-fit t i e p q = sym p ∙ q
+-- ── at a record that passes ──
 
-pub ruleset entering = (fit, members_small, before_small, nots, rules)
+module _ (t : List ℤ) (i e : ℕ) (b : i < e) {R : Bool} (fr : R ≡ item_fits t i e) (hr : R ≡ true) where
+  passed : Ranged t i e
+  passed = ranged t i e b (sym fr ∙ hr)
 
--- ── the end of a subtree ──
+  pub next_after : i < natural (field t i 5)
+  next_after = omega (arith, passed.ahead)
 
-module _ (t : List ℤ) (i e : ℕ) (b : i < e) (h : item_fits t i e ≡ true) where
-  pub next_after : {x : ℕ} → x ≡ natural (field t i 5) → i < x
-  next_after ex = omega (arith, (ranged t i e b h).ahead)
-
-  pub next_upto : {x : ℕ} → x ≡ natural (field t i 5) → x ≤ e
-  next_upto ex = omega (arith, (ranged t i e b h).nests)
+  pub next_upto : natural (field t i 5) ≤ e
+  next_upto = omega (arith, passed.nests)
 
   pub replication_least : 1 ≤ natural (field t i 4)
-  replication_least = (ranged t i e b h).one
+  replication_least = passed.one
 
   pub replication_most : natural (field t i 4) ≤ 2147483647
-  replication_most = (ranged t i e b h).most
+  replication_most = passed.most
 
-pub ruleset item_nexts = (next_after, next_upto, replication_least, replication_most, rules)
+pub ruleset entering = (next_after, next_upto, replication_least, replication_most, members_small, before_small, nots, rules)

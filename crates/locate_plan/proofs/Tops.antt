@@ -206,22 +206,20 @@ module _ {t : List ℤ} {end i counted : ℕ} (v : CountedTo t end i counted) wh
 
 pub ruleset counting = (begin, all_good, no_segment, inside_bad, untold, too_many, next_segment, nots, rules)
 
-pub top_fit : (t : List ℤ) (i e : ℕ) {R : Bool} → R ≡ segment_fits t i e → R ≡ true → segment_fits t i e ≡ true
-top_fit t i e p q = sym p ∙ q
+module _ (t : List ℤ) (i e : ℕ) {R : Bool} (fr : R ≡ segment_fits t i e) (hr : R ≡ true) where
+  passed : Topped t i e
+  passed = topped t i e (sym fr ∙ hr)
 
-pub ruleset entering_top = (inside_small, top_fit, nots, rules)
-
-module _ (t : List ℤ) (i e : ℕ) (h : segment_fits t i e ≡ true) where
   pub origin_low : natural (field t i 2) ≤ 2147483647
-  origin_low = (topped t i e h).origin
+  origin_low = passed.origin
 
-  pub top_after : {x : ℕ} → x ≡ natural (field t i 5) → i < x
-  top_after ex = omega (arith, (topped t i e h).ahead)
+  pub top_after : i < natural (field t i 5)
+  top_after = omega (arith, passed.ahead)
 
-  pub top_upto : {x : ℕ} → x ≡ natural (field t i 5) → x ≤ e
-  top_upto ex = omega (arith, (topped t i e h).nests)
+  pub top_upto : natural (field t i 5) ≤ e
+  top_upto = omega (arith, passed.nests)
 
-pub ruleset top_nexts = (origin_low, top_after, top_upto, rules)
+pub ruleset entering_top = (origin_low, top_after, top_upto, inside_small, nots, rules)
 
 -- ── the whole table ──
 

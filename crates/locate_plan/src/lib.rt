@@ -8,8 +8,9 @@ ghost use Rattle.extent.specs.Reach.{Small};
 ghost use Rattle.locate_plan.specs.Judging.{tested_of, segment_tells, planned_of};
 
 use extent::{Extent, fits, nothing};
+use locate_copies::next_record;
 use locate_ranges::{item_fits, segment_fits};
-use locate_rows::{NEXT, START, rise_at};
+use locate_rows::{START, rise_at};
 use locate_sums::{added, told};
 use terms::{FIELDS, MOST_VARIABLES};
 
@@ -36,14 +37,6 @@ const MEMBERS: u64 = 3;
 
 const DEEPEST: u64 = terms::DEEPEST as u64;
 
-// The number of the record after the subtree of data element `i`.
-fn item_next(table: &[i64], i: usize, end: usize) -> usize
-    requires { (i < end) × (end * 8 ≤ length table.now) × (item_fits table.now i end ≡ true) }
-    ensures { (result ≡ natural (field table.now i 5)) × (i < result) × (result ≤ end) × (1 ≤ natural (field table.now i 4)) × (natural (field table.now i 4) ≤ 2147483647) }
-{
-    rise_at(table, i, NEXT) as usize
-}
-
 // Tests the data elements from record `from` to before `end`, which stand at `depth`.
 fn items(table: &[i64], from: usize, end: usize, depth: u64) -> Option<Extent>
     requires { (from ≤ end) × (end ≤ 4095) × (end * 8 ≤ length table.now) × (depth ≤ 25) }
@@ -59,7 +52,7 @@ fn items(table: &[i64], from: usize, end: usize, depth: u64) -> Option<Extent>
         if !item_fits(table, i, end) {
             return None;
         }
-        let next = item_next(table, i, end);
+        let next = next_record(table, i, end);
         let members = items(table, i + 1, next, depth + 1)?;
         before = added(table, i, members, before)?;
         i = next;
@@ -75,14 +68,6 @@ fn segment_told(table: &[i64], i: usize, e: Extent) -> bool
     told(table, i, e) && fits(rise_at(table, i, START), e)
 }
 
-// The number of the record after the subtree of segment `i`.
-fn segment_next(table: &[i64], i: usize, end: usize) -> usize
-    requires { (i < end) × (end * 8 ≤ length table.now) × (segment_fits table.now i end ≡ true) }
-    ensures { (result ≡ natural (field table.now i 5)) × (i < result) × (result ≤ end) × (natural (field table.now i 2) ≤ 2147483647) }
-{
-    rise_at(table, i, NEXT) as usize
-}
-
 // Whether the first `end` records are segments with their subtrees, and have at most 1,000,000 variables together.
 pub fn segments(table: &[i64], end: usize) -> bool
     requires { (end ≤ 4095) × (end * 8 ≤ length table.now) }
@@ -95,7 +80,7 @@ pub fn segments(table: &[i64], end: usize) -> bool
         if !segment_fits(table, i, end) {
             return false;
         }
-        let next = segment_next(table, i, end);
+        let next = next_record(table, i, end);
         let Some(e) = items(table, i + 1, next, MEMBERS) else {
             return false;
         };
