@@ -11,7 +11,7 @@ use Rattle.cdi.specs.Faults.Answer.{accepted, refused}
 use Rattle.cdi.specs.Walk.{Found}
 use Rattle.cdi.specs.Plans.{segments_of, is_plan, variable_of, locating}
 use Rattle.cdi.proofs.Quiet.{same_accepted, same_refused}
-use Rattle.locate.specs.Answers.{told_of}
+use Rattle.locate.specs.Answers.{told_of, found_as}
 use Rattle.locate_ways.specs.Finding.{standing, Finds}
 use Rattle.std.specs.Prelude.{Result, Ok, Err}
 use Rattle.locate.specs.declared.Variable.{Variable}
@@ -28,16 +28,12 @@ once p q = p ∙ sym q
 apart : (f : Found) (g : Fault) → accepted f ≡ refused g → ⊥
 apart f g e = let z : ◌≡◌ {A = ℕ} 0 1 = cc in omega arith
 
+abbrev variable_as : Found → Variable
+variable_as x = record { «record» = x.number; space = x.space; address = x.address; size = x.size; kind = x.kind }
+
 pub one_case : (r s : Result Variable Absent) → told_of r ≡ told_of s → r ≡ s
 unfolding told_of
-one_case (Ok v) (Ok w) e =
-    let f = same_accepted e in
-    let p = ap (λ (x : Found). x.number) f in
-    let q = ap (λ (x : Found). x.space) f in
-    let u = ap (λ (x : Found). x.address) f in
-    let v = ap (λ (x : Found). x.size) f in
-    let w = ap (λ (x : Found). x.kind) f in
-    cc
+one_case (Ok v) (Ok w) e = ap (λ (x : Found). Ok (variable_as x)) (same_accepted {x = found_as v} {y = found_as w} e)
 one_case (Ok v) (Err NotAPlan) e = absurd (apart _ _ e)
 one_case (Ok v) (Err NoVariable) e = absurd (apart _ _ e)
 one_case (Err NotAPlan) (Ok v) e = absurd (apart _ _ (sym e))

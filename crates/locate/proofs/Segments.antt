@@ -183,7 +183,7 @@ module _ {w : ℕ} where
     told_record f = f h
 
     pub told_is : (t : List ℤ) (space : ℕ) {z k : ℕ} → z ≡ natural (field t (w % 4096) 3) → k ≡ natural (field t (w % 4096) 0)
-        → told_of (Ok (record { record = w % 4096; space = space; address = w / 4096; size = z; kind = k })) ≡ standing t space w
+        → told_of (Ok (record { «record» = w % 4096; space = space; address = w / 4096; size = z; kind = k })) ≡ standing t space w
     unfolding told_of standing
     told_is t space ez ek = rw (ez, ek) (sym (rw (ne_eqb w 18446744073709551615 h)))
 
@@ -191,7 +191,7 @@ pub none_held : (t : List ℤ) → Held t (Err NoVariable)
 unfolding Held
 none_held t = tt
 
-pub told_held : (t : List ℤ) (r s a z k : ℕ) → r * 8 + 8 ≤ length t → Held t (Ok (record { record = r; space = s; address = a; size = z; kind = k }))
+pub told_held : (t : List ℤ) (r s a z k : ℕ) → r * 8 + 8 ≤ length t → Held t (Ok (record { «record» = r; space = s; address = a; size = z; kind = k }))
 unfolding Held
 told_held t r s a z k h = h
 
