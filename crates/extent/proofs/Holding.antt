@@ -135,10 +135,13 @@ module _ (c b e s : ℕ) where
   unfolding too_wide
   holds_wide h = sym (wide_held (extent c b e s) h)
 
-  pub holds_all : {m : ℕ} → s ≤ 2 ^ 32 → m ≡ min c 1000001 → extent m b e s ≡ held (extent c b e s)
-  holds_all h k = rw k (sym (plain_held (extent c b e s) h))
+  pub holds_capped : {m : ℕ} → s ≤ 2 ^ 32 → m ≡ min c 1000001 → extent m b e s ≡ held (extent c b e s)
+  holds_capped h k = rw k (sym (plain_held (extent c b e s) h))
 
-pub ruleset holding = (holds_wide, holds_all, rules)
+  pub holds_all : s ≤ 2 ^ 32 → c ≤ 1000000 → extent c b e s ≡ held (extent c b e s)
+  holds_all h k = holds_capped h (omega arith)
+
+pub ruleset holding = (holds_wide, holds_capped, rules)
 
 pub by_offset_law : (o : ℤ) → extent 0 (natural (neg_ℤ o)) (natural o) (natural o + natural (neg_ℤ o)) ≡ by_offset o
 unfolding by_offset natural

@@ -11,7 +11,7 @@ use terms::GROUP;
 // A table has at most 4,095 records, so their numbers are below this one.
 pub const RECORDS: u64 = 4096;
 
-// What `find_in` says where there is no variable.
+// What `find_in` says where there is no variable. One number in place of an `Option`, which goes through memory at each level: that was slower (docs/COSTS.md).
 pub const NOWHERE: u64 = 18446744073709551615;
 
 // A record and an address as one number.

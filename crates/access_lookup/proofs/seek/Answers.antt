@@ -1,4 +1,4 @@
-use Rattle.std.proofs.Common.{◌≡◌}
+use Rattle.std.proofs.Common.{◌≡◌, rules}
 use Rattle.std.specs.Prelude.{Ok, Err}
 use Rattle.locate.specs.declared.Absent.TheVariants.{NotAPlan, NoVariable}
 use Rattle.access_lookup.proofs.Seeking.{seeking, held_record, seek_no_plan, seek_none, stands, stands_inside, stands_behind, seek_is, seek_fits}
@@ -36,9 +36,9 @@ returns-in-Err-NoVariable-clause-fits c = search seeking
 pub returns-in-Ok-clause-is : goal.returns-in-Ok-clause-is
 returns-in-Ok-clause-is c =
     let g : c.find.result ≡ Ok c.in-Ok.it = cc in
-    seek_is c.args.text.now c.args.table.now c.requires c.args.n c.find.ensures.is g c.rise_at-place.ensures.0 c.content_at-part.result c.content_at-part.ensures.is
+    search (seek_is c.args.text.now c.args.table.now c.requires c.args.n c.find.ensures.is g, rules)
 
 pub returns-in-Ok-clause-fits : goal.returns-in-Ok-clause-fits
 returns-in-Ok-clause-fits c =
     let g : c.find.result ≡ Ok c.in-Ok.it = cc in
-    seek_fits c.args.text.now c.args.table.now c.requires c.args.n c.find.ensures.is g c.rise_at-place.ensures.0 c.content_at-part.result c.content_at-part.ensures.is c.content_at-part.ensures.inside
+    search (seek_fits c.args.text.now c.args.table.now c.requires c.args.n c.find.ensures.is g, rules)
