@@ -25,9 +25,11 @@ use Rattle.cdi.proofs.Stages.{first_zero, stages}
 use Rattle.cdi.proofs.Settings.{described_nodes, variable_stands, setting_fits}
 use Rattle.cdi.proofs.Promises.{table_is_plan, table_decodes}
 use Rattle.scan.proofs.Tests.{lt_or_le}
-use Rattle.locate.specs.Answers.{told_of, Held}
-use Rattle.locate.specs.declared.Located.{Located}
-use Rattle.locate.specs.declared.Located.TheVariants.{Variable as At, NotAPlan, NoVariable}
+use Rattle.locate.specs.Answers.{found_as, told_of, Held}
+use Rattle.std.specs.Prelude.{Result, Ok, Err}
+use Rattle.locate.specs.declared.Variable.{Variable as One}
+use Rattle.locate.specs.declared.Absent.{Absent}
+use Rattle.locate.specs.declared.Absent.TheVariants.{NotAPlan, NoVariable}
 use Rattle.levels.specs.Ahead.{here}
 use Rattle.children.specs.Siblings.{nodes_in, Inside}
 use Rattle.children.specs.declared.Part.{Part}
@@ -107,41 +109,41 @@ module _ (b : List ℕ) (t : List ℤ) {e : ℕ} (h : known_of b t ≡ accepted 
   unfolding setting_of exact d
   setting_is_law n = rw (k.describes, k.same)
 
-  module _ (n : ℕ) {r : Located} (f : told_of r ≡ variable_of (segments_of t) n) where
+  module _ (n : ℕ) {r : Result One Absent} (f : told_of r ≡ variable_of (segments_of t) n) where
     -- no such variable
-    pub seek_none : r ≡ NoVariable → lookup_of c (Nothing 21) ≡ setting_of b t n
+    pub seek_none : r ≡ Err NoVariable → lookup_of c (Nothing 21) ≡ setting_of b t n
     unfolding lookup_of setting_in told_of
     seek_none q = sym (setting_is_law n ∙ rw (ap (λ x. variable_of x n) (sym segments_are) ∙ sym f ∙ ap told_of q))
 
-    pub seek_no_plan : r ≡ NotAPlan → lookup_of c (Nothing 20) ≡ setting_of b t n
+    pub seek_no_plan : r ≡ Err NotAPlan → lookup_of c (Nothing 20) ≡ setting_of b t n
     unfolding lookup_of setting_in told_of
     seek_no_plan q = sym (setting_is_law n ∙ rw (ap (λ x. variable_of x n) (sym segments_are) ∙ sym f ∙ ap told_of q))
 
-    module _ {j w a z q : ℕ} (g : r ≡ At j w a z q) where
+    module _ {v : One} (g : r ≡ Ok v) where
       abbrev variable : Found
-      variable = record { number = j; space = w; address = a; size = z; kind = q }
+      variable = found_as v
 
       found : variable_of d.segments n ≡ accepted variable
       unfolding told_of
       found = ap (λ x. variable_of x n) (sym segments_are) ∙ sym f ∙ ap told_of g
 
-      pub stands : {p : ℕ} → p ≡ natural (field t j 1) → is_some (content_at p (here (take (e - 0) (drop 0 b)) 22)) ≡ true
+      pub stands : {p : ℕ} → p ≡ natural (field t v.record 1) → is_some (content_at p (here (take (e - 0) (drop 0 b)) 22)) ≡ true
       unfolding d
       stands {p} l = rw (l, lent b e) (rw nodes_are at (variable_stands b t n d variable k.describes k.table found))
 
-      pub stands_inside : {p : ℕ} → p ≡ natural (field t j 1) → p < length (take (e - 0) (drop 0 b))
+      pub stands_inside : {p : ℕ} → p ≡ natural (field t v.record 1) → p < length (take (e - 0) (drop 0 b))
       stands_inside l = content_place (take (e - 0) (drop 0 b)) 22 _ (stands l)
 
-      pub stands_behind : {p : ℕ} → p ≡ natural (field t j 1) → 22 ≤ length (take (e - 0) (drop 0 b))
+      pub stands_behind : {p : ℕ} → p ≡ natural (field t v.record 1) → 22 ≤ length (take (e - 0) (drop 0 b))
       unfolding content_at is_some
       stands_behind {p} l = ⊎_elim
           (λ x. let y : is_some (content_at p end) ≡ true = rw (nothing_here (take (e - 0) (drop 0 b)) 22 (omega arith)) at (stands l) in impossible (cc))
           (λ x. x)
           (lt_or_le (length (take (e - 0) (drop 0 b))) 22)
 
-      module _ {p : ℕ} (l : p ≡ natural (field t j 1)) (x : Part) (m : nodes_in (take (e - 0) (drop 0 b)) x ≡ content_at p (here (take (e - 0) (drop 0 b)) 22)) where
+      module _ {p : ℕ} (l : p ≡ natural (field t v.record 1)) (x : Part) (m : nodes_in (take (e - 0) (drop 0 b)) x ≡ content_at p (here (take (e - 0) (drop 0 b)) 22)) where
         abbrev it : Setting
-        it = record { number = j; space = w; address = a; size = z; kind = q; part = x }
+        it = record { number = v.record; space = v.space; address = v.address; size = v.size; kind = v.kind; part = x }
 
         pub seek_is : lookup_of c (Is it) ≡ setting_of b t n
         unfolding lookup_of setting_is setting_in content_in
@@ -155,8 +157,8 @@ pub nothing_fits : (c : List ℕ) (m : ℕ) → Fits c (Nothing m)
 unfolding Fits
 nothing_fits c m = tt
 
-pub held_record : (t : List ℤ) {r : Located} → Held t r → (j : ℕ) {w a z q : ℕ} → r ≡ At j w a z q → j * 8 + 8 ≤ length t
+pub held_record : (t : List ℤ) {r : Result One Absent} → Held t r → (v : One) → r ≡ Ok v → v.record * 8 + 8 ≤ length t
 unfolding Held
-held_record t h j g = rw g at h
+held_record t h v g = rw g at h
 
 pub ruleset seeking = (known_end, known_plan, seek_none, seek_no_plan, stands, stands_inside, stands_behind, seek_is, seek_fits, nothing_fits, held_record, rules)

@@ -7,7 +7,7 @@ ghost use Rattle.cdi.specs.Access.{setting_of};
 ghost use Rattle.access_lookup.specs.Told.{known_of, lookup_of, Fits};
 
 use access_kinds::Setting;
-use locate::{Located, find};
+use locate::{Absent, find};
 use locate_rows::{PLACE, rise_at};
 use settings::content_at;
 use terms::FIRST_LINE;
@@ -25,25 +25,18 @@ pub fn seek(text: &[u8], end: usize, table: &[i64], n: u64) -> Lookup
     ensures is { lookup_of (take end text.now) result ≡ setting_of text.now table.now n }
     ensures fits { Fits (take end text.now) result }
 {
-    let located = find(table, n);
-    match located {
-        Located::NotAPlan => Lookup::Nothing(20),
-        Located::NoVariable => Lookup::Nothing(21),
-        Located::Variable {
-            record,
-            space,
-            address,
-            size,
-            kind,
-        } => {
-            let place = rise_at(table, record, PLACE);
+    match find(table, n) {
+        Err(Absent::NotAPlan) => Lookup::Nothing(20),
+        Err(Absent::NoVariable) => Lookup::Nothing(21),
+        Ok(it) => {
+            let place = rise_at(table, it.record, PLACE);
             let part = content_at(&text[0..end], FIRST_LINE, place as usize);
             Lookup::Is(Setting {
-                number: record,
-                space,
-                address,
-                size: size as usize,
-                kind,
+                number: it.record,
+                space: it.space,
+                address: it.address,
+                size: it.size as usize,
+                kind: it.kind,
                 part,
             })
         }

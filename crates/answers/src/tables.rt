@@ -5,27 +5,26 @@ ghost use Rattle.std.specs.Prelude.{◌≤◌};
 use answers_out::lines::{Line, bad, four, plain, refused};
 use answers_out::{tell, tell_kind, words};
 use frames::Field;
-use locate::{Located, locate};
+use locate::{Absent, locate};
 
 // `found RECORD SPACE ADDRESS SIZE KIND`, or `refused 20 0`, `refused 21 0`
 fn located(table: &[i64], n: u64) -> Line
     ensures { result.count ≤ 4 }
 {
-    let told = locate(table, n);
-    match told {
-        Located::Variable {
-            record,
-            space,
-            address,
-            size,
-            kind,
-        } => {
-            tell(four(words::FOUND, record as u64, space, address, size));
-            tell_kind(kind);
+    match locate(table, n) {
+        Ok(it) => {
+            tell(four(
+                words::FOUND,
+                it.record as u64,
+                it.space,
+                it.address,
+                it.size,
+            ));
+            tell_kind(it.kind);
             plain(words::NOTHING)
         }
-        Located::NotAPlan => refused(20, 0),
-        Located::NoVariable => refused(21, 0),
+        Err(Absent::NotAPlan) => refused(20, 0),
+        Err(Absent::NoVariable) => refused(21, 0),
     }
 }
 

@@ -1,7 +1,6 @@
 -- What the code holds: joining and repeating what is held gives what is held of the whole.
 use mathlib.Core.Path.{◌≡◌, refl, sym, ap, ◌∙◌}
 use mathlib.Core.List.{List, ◌++◌}
-use mathlib.Core.Bool.{false}
 use Prim.Native.Nat.{ℕ, zero, suc, pred, ◌+◌, ◌*◌, ◌-◌, ◌^◌, ◌≤◌, ◌<◌, min, max}
 use native.Mathlib.Omega.{arith}
 use native.Mathlib.Decide.{dec_lt}
@@ -136,13 +135,13 @@ module _ (c b e s : ℕ) where
   unfolding too_wide
   holds_wide h = sym (wide_held (extent c b e s) h)
 
-  pub holds_many : s ≤ 2 ^ 32 → 1000000 < c → extent 1000001 b e s ≡ held (extent c b e s)
-  holds_many h k = let m : min c 1000001 ≡ 1000001 = omega arith in sym (plain_held (extent c b e s) h ∙ rw m)
+  pub holds_capped : {m : ℕ} → s ≤ 2 ^ 32 → m ≡ min c 1000001 → extent m b e s ≡ held (extent c b e s)
+  holds_capped h k = rw k (sym (plain_held (extent c b e s) h))
 
   pub holds_all : s ≤ 2 ^ 32 → c ≤ 1000000 → extent c b e s ≡ held (extent c b e s)
-  holds_all h k = let m : min c 1000001 ≡ c = omega arith in sym (plain_held (extent c b e s) h ∙ rw m)
+  holds_all h k = holds_capped h (omega arith)
 
-pub ruleset holding = (nothing_is, holds_wide, holds_many, holds_all, rules)
+pub ruleset holding = (holds_wide, holds_capped, rules)
 
 pub by_offset_law : (o : ℤ) → extent 0 (natural (neg_ℤ o)) (natural o) (natural o + natural (neg_ℤ o)) ≡ by_offset o
 unfolding by_offset natural
@@ -179,7 +178,7 @@ product_fits m d h = omega (arith, product m d h)
 
 pub ruleset products = (product, product_fits, rules)
 
-pub fits_not : (n : ℕ) (e : Extent) → n < e.below → false ≡ fits_at n e
+pub fits_not : (n : ℕ) (e : Extent) → n < e.below → leb e.below n ≡ fits_at n e
 unfolding fits_at
 fits_not n e h = sym (rw (lt-leb _ _ h))
 

@@ -1,11 +1,11 @@
 -- What a 64-bit signed number adds, and what it takes away.
-use mathlib.Core.Path.{◌≡◌, refl, sym, ap, ◌∙◌}
+use mathlib.Core.Path.{◌≡◌, refl, sym, ◌∙◌}
 use mathlib.Core.Bool.{true, false, true≢false}
-use Prim.Native.Nat.{ℕ, zero, suc, ◌+◌, ◌-◌, ◌^◌, ◌≤◌, ◌<◌}
+use Prim.Native.Nat.{ℕ, zero, suc, ◌^◌, ◌≤◌, ◌<◌}
 use native.Mathlib.Omega.{arith}
-use borrow.Author.Tests.{le-ltb, ltb-true}
+use borrow.Author.Tests.{ltb-true}
 use lib.Dec.{T}
-use lib.IntN.{ℤ, pos, negsuc, neg_ℤ, nat_abs, ◌-ℤ◌}
+use lib.IntN.{ℤ, pos, negsuc, neg_ℤ, nat_abs}
 use lib.Signed.{lt_z, non_neg}
 use mir.Syntax.{w64}
 use mir.Val.{SFits, Fits, to_z, of_z}
@@ -34,32 +34,10 @@ read_is z g = to_z-of_z w64 z g
 
 -- ── by the sign ──
 
-less_one : (n : ℕ) → negsuc 0 -ℤ negsuc n ≡ pos n
-less_one n = rw (le-ltb (suc n) 1 (omega arith)) (ap pos less)
-  where
-    less : suc n - 1 ≡ n
-    less = omega arith
-
--- the magnitude of a negative number less one, as the code makes it
-record Turned (z : ℤ) : Type 0 where
-  fits : SFits w64 (negsuc 0 -ℤ z)
-  sign : T (non_neg (negsuc 0 -ℤ z))
-  size : Fits w64 (nat_abs (negsuc 0 -ℤ z))
-  more : Fits w64 (nat_abs (negsuc 0 -ℤ z) + 1)
-  falls : nat_abs (negsuc 0 -ℤ z) + 1 ≡ natural (neg_ℤ z)
-  most : nat_abs (negsuc 0 -ℤ z) + 1 ≤ 2 ^ 63
-
-turned : (z : ℤ) → SFits w64 z → lt_z z (pos 0) ≡ true → Turned z
+negated : (z : ℤ) → lt_z z (pos 0) ≡ true → nat_abs z ≡ natural (neg_ℤ z)
 unfolding natural
-turned (pos n) g e = absurd (omega (arith, ltb-true n 0 e))
-turned (negsuc n) g e = record {
-  fits = rw less_one (record { sfits = g.sfits });
-  sign = rw less_one tt;
-  size = rw less_one (record { fits = omega (arith, g.sfits) });
-  more = rw less_one (record { fits = omega (arith, g.sfits) });
-  falls = rw less_one (omega arith);
-  most = rw less_one (omega (arith, g.sfits));
-}
+negated (pos n) e = absurd (omega (arith, ltb-true n 0 e))
+negated (negsuc n) e = refl
 
 -- a number that isn't negative
 record Plain (z : ℤ) : Type 0 where
@@ -92,20 +70,8 @@ module _ (z : ℤ) (g : SFits w64 z) where
     below : lt_z z (pos 0) ≡ true
     below = rw (read_is z g) at e
 
-    pub turn_fits : SFits w64 (negsuc 0 -ℤ read z)
-    turn_fits = rw (read_is z g) (turned z g below).fits
-
-    turn : read (negsuc 0 -ℤ read z) ≡ negsuc 0 -ℤ z
-    turn = read_is (negsuc 0 -ℤ read z) turn_fits ∙ rw (read_is z g)
-
-    pub turn_casts : T (non_neg (read (negsuc 0 -ℤ read z))) × Fits w64 (nat_abs (read (negsuc 0 -ℤ read z)))
-    turn_casts = rw turn ((turned z g below).sign, (turned z g below).size)
-
-    pub turn_more : Fits w64 (nat_abs (read (negsuc 0 -ℤ read z)) + 1)
-    turn_more = rw turn (turned z g below).more
-
-    pub falls : (nat_abs (read (negsuc 0 -ℤ read z)) + 1 ≡ natural (neg_ℤ z)) × (nat_abs (read (negsuc 0 -ℤ read z)) + 1 ≤ 2 ^ 63)
-    falls = rw turn ((turned z g below).falls, (turned z g below).most)
+    pub falls : {m : ℕ} → m ≡ nat_abs (read z) → m ≡ natural (neg_ℤ z)
+    falls h = h ∙ rw (read_is z g) (negated z below)
 
     pub rises_not : (0 ≡ natural z) × (0 < 2 ^ 63)
     rises_not = (negative z below, omega arith)

@@ -24,20 +24,14 @@ pub struct Extent {
 pub fn rise(z: i64) -> u64
     ensures { (result ≡ natural z) × (result < 2 ^ 63) }
 {
-    if z < 0 {
-        return 0;
-    }
-    z as u64
+    if z < 0 { 0 } else { z as u64 }
 }
 
 // What a number takes away where it is negative, else 0.
 pub fn fall(z: i64) -> u64
     ensures { (result ≡ natural (neg_ℤ z)) × (result ≤ 2 ^ 63) }
 {
-    if z < 0 {
-        return (-1 - z) as u64 + 1;
-    }
-    0
+    if z < 0 { z.unsigned_abs() } else { 0 }
 }
 
 // The extent of no step.
@@ -58,26 +52,19 @@ fn hold(count: u64, below: u64, ends: u64, span: u64) -> Extent
     ensures { (result ≡ held (record { count = count; below = below; ends = ends; span = span })) × Small result }
 {
     if LAST_ADDRESS < span {
-        return Extent {
+        Extent {
             count: 0,
             below: 0,
             ends: 0,
             span: LAST_ADDRESS + 1,
-        };
-    }
-    if MOST_VARIABLES < count {
-        return Extent {
-            count: MOST_VARIABLES + 1,
-            below: below,
-            ends: ends,
-            span: span,
-        };
-    }
-    Extent {
-        count: count,
-        below: below,
-        ends: ends,
-        span: span,
+        }
+    } else {
+        Extent {
+            count: count.min(MOST_VARIABLES + 1),
+            below,
+            ends,
+            span,
+        }
     }
 }
 
@@ -97,34 +84,15 @@ pub fn stood(size: u64) -> Extent
     hold(1, 0, size, size)
 }
 
-// a - b, and 0 where b is larger.
-fn beyond(a: u64, b: u64) -> u64
-    ensures { result ≡ a - b }
-{
-    if a < b {
-        return 0;
-    }
-    a - b
-}
-
-fn larger(a: u64, b: u64) -> u64
-    ensures { result ≡ max a b }
-{
-    if a < b {
-        return b;
-    }
-    a
-}
-
 // The extent of one stretch and another after it. Where the second goes below the lowest address of the first, the first lies higher by
 // that much, and the other way round.
 pub fn joined(first: Extent, second: Extent) -> Extent
     requires { Small first × Small second }
     ensures { (result ≡ held (join first second)) × Small result }
 {
-    let lifts_first = beyond(second.below, first.ends);
-    let lifts_second = beyond(first.ends, second.below);
-    let span = larger(first.span + lifts_first, second.span + lifts_second);
+    let lifts_first = second.below.saturating_sub(first.ends);
+    let lifts_second = first.ends.saturating_sub(second.below);
+    let span = (first.span + lifts_first).max(second.span + lifts_second);
     hold(
         first.count + second.count,
         first.below + lifts_first,
@@ -146,8 +114,8 @@ pub fn repeated(replication: u64, once: Extent) -> Extent
     requires { (1 ≤ replication) × (replication ≤ 2147483647) × Small once }
     ensures { (result ≡ held (repeat replication once)) × Small result }
 {
-    let down = beyond(once.below, once.ends);
-    let up = beyond(once.ends, once.below);
+    let down = once.below.saturating_sub(once.ends);
+    let up = once.ends.saturating_sub(once.below);
     let later = replication - 1;
     let falls = multiple(later, down);
     let rises = multiple(later, up);
@@ -165,8 +133,5 @@ pub fn fits(origin: u64, stretch: Extent) -> bool
     requires { (origin ≤ 2 ^ 32) × Small stretch }
     ensures { result ≡ fits_at origin stretch }
 {
-    if origin < stretch.below {
-        return false;
-    }
-    origin + stretch.span <= LAST_ADDRESS + stretch.below
+    stretch.below <= origin && origin + stretch.span <= LAST_ADDRESS + stretch.below
 }

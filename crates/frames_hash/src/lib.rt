@@ -30,7 +30,7 @@ fn bits(z: i64) -> u64
 fn with_byte(h: u64, b: u8) -> u64
     ensures { result ≡ times_prime (bit_xor h b) }
 {
-    times_prime(h ^ b as u64)
+    times_prime(h ^ u64::from(b))
 }
 
 // These bytes, behind those before them.
@@ -38,10 +38,8 @@ fn with_bytes(h: u64, bytes: &[u8]) -> u64
     ensures { result ≡ hash_from h bytes.now }
 {
     let mut sum = h;
-    let mut i = 0;
-    while i < bytes.len() {
-        sum = with_byte(sum, bytes[i]);
-        i += 1;
+    for b in bytes {
+        sum = with_byte(sum, *b);
     }
     sum
 }
@@ -66,10 +64,8 @@ pub fn hash(table: &[i64]) -> u64
     ensures { result ≡ hash_of (table_bytes table.now) }
 {
     let mut sum = BASIS;
-    let mut i = 0;
-    while i < table.len() {
-        sum = with_number(sum, table[i]);
-        i += 1;
+    for z in table {
+        sum = with_number(sum, *z);
     }
     sum
 }

@@ -13,11 +13,11 @@ use Rattle.locate_rows.proofs.Numbers.{nots}
 use Rattle.locate.proofs.Segments.{a_plan}
 use Rattle.listing_fill.specs.Batch.{batch, listed, listing, out_after}
 use Rattle.listing.specs.Told.{listing_of}
-use Rattle.listing.specs.declared.Listing.TheVariants.{Count, NotAPlan}
+use Rattle.std.specs.Prelude.{Some, None}
 
 module _ (t : List ℤ) (n : ℕ) (o : List ℕ) {a : Bool} (fa : a ≡ is_plan t) where
   module _ (h : a ≡ false) where
-    pub none_listed : listing_of NotAPlan ≡ listing t n o
+    pub none_listed : listing_of None ≡ listing t n o
     unfolding listing listing_of
     none_listed = sym (rw (← fa, h))
 
@@ -26,7 +26,7 @@ module _ (t : List ℤ) (n : ℕ) (o : List ℕ) {a : Bool} (fa : a ≡ is_plan 
     out_kept = sym (rw (← fa, h))
 
   module _ (h : a ≡ true) where
-    pub all_listed : {r : ℕ} → r ≡ length (batch (walk (segments_of t)) n o) → listing_of (Count r) ≡ listing t n o
+    pub all_listed : {r : ℕ} → r ≡ length (batch (walk (segments_of t)) n o) → listing_of (Some r) ≡ listing t n o
     unfolding listing listing_of
     all_listed q = ap accepted q ∙ sym (rw (← fa, h))
 

@@ -9,15 +9,14 @@ use Rattle.cdi.specs.Plans.{segments_of}
 use Rattle.cdi.proofs.Quiet.{impossible, same_accepted}
 use Rattle.listing_fill.specs.Batch.{batch, listed, listing, out_after}
 use Rattle.listing.specs.Told.{listing_of}
-use Rattle.listing.specs.declared.Listing.{Listing}
-use Rattle.listing.specs.declared.Listing.TheVariants.{Count, NotAPlan}
+use Rattle.std.specs.Prelude.{Option, Some, None}
 
-one_case : (r s : Listing) → listing_of r ≡ listing_of s → r ≡ s
+one_case : (r s : Option ℕ) → listing_of r ≡ listing_of s → r ≡ s
 unfolding listing_of
-one_case (Count n) (Count m) e = ap Count (same_accepted e)
-one_case (Count n) NotAPlan e = impossible (cc)
-one_case NotAPlan (Count m) e = impossible (cc)
-one_case NotAPlan NotAPlan e = refl
+one_case (Some n) (Some m) e = ap Some (same_accepted e)
+one_case (Some n) None e = impossible (cc)
+one_case None (Some m) e = impossible (cc)
+one_case None None e = refl
 
 module _ (t : List ℤ) (n : ℕ) (o : List ℕ) where
   pub list_known_once : (r s : ℕ) (p q : List ℕ)
@@ -26,7 +25,7 @@ module _ (t : List ℤ) (n : ℕ) (o : List ℕ) where
       → (r ≡ s) × (p ≡ q)
   list_known_once r s p q a b c d = (a ∙ sym c, b ∙ sym d)
 
-  pub list_once : (r s : Listing) (p q : List ℕ)
+  pub list_once : (r s : Option ℕ) (p q : List ℕ)
       → listing_of r ≡ listing t n o → p ≡ out_after t n o
       → listing_of s ≡ listing t n o → q ≡ out_after t n o
       → (r ≡ s) × (p ≡ q)

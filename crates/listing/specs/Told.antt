@@ -1,9 +1,8 @@
 -- What the answer of listing says.
-use Rattle.std.specs.Prelude.{ℕ}
+use Rattle.std.specs.Prelude.{ℕ, Option, Some, None}
 use Rattle.cdi.specs.Faults.{Answer, accepted, refused, fault}
-use Rattle.listing.specs.declared.Listing.{Listing}
-use Rattle.listing.specs.declared.Listing.TheVariants.{Count, NotAPlan}
 
-unfoldable pub listing_of : Listing → Answer ℕ
-listing_of (Count n) = accepted n
-listing_of NotAPlan = refused (fault 20 0)
+-- how many variables were listed, or 20 "not a plan"
+unfoldable pub listing_of : Option ℕ → Answer ℕ
+listing_of (Some n) = accepted n
+listing_of None = refused (fault 20 0)

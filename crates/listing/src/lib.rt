@@ -14,13 +14,6 @@ use locate_plan::is_plan;
 use locate_rows::{COUNT, EXTRA, START, rise_at};
 use terms::FIELDS;
 
-// How many variables were listed, or the refusal: 20 for `NotAPlan`.
-#[derive(Clone, Copy)]
-pub enum Listing {
-    Count(usize),
-    NotAPlan,
-}
-
 // Fills the slice with the variables n, n + 1, .. of a table that is known to be a plan, five numbers each, as many as it has room for or remain,
 // and returns how many.
 pub fn list_known(table: &[i64], n: u64, out: &mut [u64]) -> usize
@@ -33,11 +26,12 @@ pub fn list_known(table: &[i64], n: u64, out: &mut [u64]) -> usize
     let mut i = 0;
     let mut left = n;
     let mut k = 0;
+    // A `while`: a step goes past a whole subtree.
     while i < records {
         let count = rise_at(table, i, COUNT);
         let next = next_record(table, i, records);
         if count <= left {
-            left = left - count;
+            left -= count;
             i = next;
             continue;
         }
@@ -50,14 +44,13 @@ pub fn list_known(table: &[i64], n: u64, out: &mut [u64]) -> usize
     k
 }
 
-// The same of any table; one that is no plan leaves the slice as it was.
-pub fn list(table: &[i64], n: u64, out: &mut [u64]) -> Listing
+// The same of any table; one that is no plan is listed as none, refusal 20, and leaves the slice as it was.
+pub fn list(table: &[i64], n: u64, out: &mut [u64]) -> Option<usize>
     ensures answer { listing_of result ≡ listing table.now n out.old }
     ensures after { out.new ≡ out_after table.now n out.old }
 {
     if !is_plan(table) {
-        return Listing::NotAPlan;
+        return None;
     }
-    let count = list_known(table, n, out);
-    Listing::Count(count)
+    Some(list_known(table, n, out))
 }

@@ -49,17 +49,15 @@ fn fill_element(
     let kind = rise_at(table, i, KIND);
     if kind == GROUP {
         let copy = choose(table, i, start, skip);
-        let first = copy.start;
-        let number = copy.number;
         let copies = copies_from(table, i, skip);
         let next = next_record(table, i, end);
         return fill_copies(
             table,
             i + 1,
             next,
-            first,
+            copy.start,
             copies,
-            number,
+            copy.number,
             space,
             out,
             room,
@@ -95,12 +93,13 @@ pub fn fill_copies(
     let mut again = copies;
     let mut left = skip;
     let mut k = filled;
+    // A `while`: a step goes past a whole subtree, or back to the first record for the next copy.
     while 0 < again {
         if room <= k {
             return k;
         }
         if end <= i {
-            again = again - 1;
+            again -= 1;
             i = from;
             continue;
         }
@@ -108,7 +107,7 @@ pub fn fill_copies(
         let next = next_record(table, i, end);
         let behind = moved_by(table, i, CHANGE, address);
         if count <= left {
-            left = left - count;
+            left -= count;
             address = behind;
             i = next;
             continue;

@@ -11,49 +11,47 @@ use Rattle.cdi.specs.Faults.Answer.{accepted, refused}
 use Rattle.cdi.specs.Walk.{Found}
 use Rattle.cdi.specs.Plans.{segments_of, is_plan, variable_of, locating}
 use Rattle.cdi.proofs.Quiet.{same_accepted, same_refused}
-use Rattle.locate.specs.Answers.{told_of}
+use Rattle.locate.specs.Answers.{told_of, found_as}
 use Rattle.locate_ways.specs.Finding.{standing, Finds}
-use Rattle.locate.specs.declared.Located.{Located}
-use Rattle.locate.specs.declared.Located.TheVariants.{Variable as At, NotAPlan, NoVariable}
+use Rattle.std.specs.Prelude.{Result, Ok, Err}
+use Rattle.locate.specs.declared.Variable.{Variable}
+use Rattle.locate.specs.declared.Absent.{Absent}
+use Rattle.locate.specs.declared.Absent.TheVariants.{NotAPlan, NoVariable}
 use Rattle.locate.proofs.Segments.{told_none, told_is}
 
 -- a contract that is an equation allows one answer: so for every function of the modules `table`, `ranges` and `inside` but `find_in`
 pub once : {A : Type 0} {x y z : A} → x ≡ z → y ≡ z → x ≡ y
 once p q = p ∙ sym q
 
--- ── the enum's cases have different answers ──
+-- ── different answers of the code say different things ──
 
 apart : (f : Found) (g : Fault) → accepted f ≡ refused g → ⊥
 apart f g e = let z : ◌≡◌ {A = ℕ} 0 1 = cc in omega arith
 
-pub one_case : (r s : Located) → told_of r ≡ told_of s → r ≡ s
+abbrev variable_as : Found → Variable
+variable_as x = record { «record» = x.number; space = x.space; address = x.address; size = x.size; kind = x.kind }
+
+pub one_case : (r s : Result Variable Absent) → told_of r ≡ told_of s → r ≡ s
 unfolding told_of
-one_case (At r s a z k) (At r' s' a' z' k') e =
-    let f = same_accepted e in
-    let p = ap (λ (x : Found). x.number) f in
-    let q = ap (λ (x : Found). x.space) f in
-    let u = ap (λ (x : Found). x.address) f in
-    let v = ap (λ (x : Found). x.size) f in
-    let w = ap (λ (x : Found). x.kind) f in
-    cc
-one_case (At r s a z k) NotAPlan e = absurd (apart _ _ e)
-one_case (At r s a z k) NoVariable e = absurd (apart _ _ e)
-one_case NotAPlan (At r s a z k) e = absurd (apart _ _ (sym e))
-one_case NotAPlan NotAPlan e = refl
-one_case NotAPlan NoVariable e = let f = ap (λ (x : Fault). x.number) (same_refused e) in absurd (omega arith)
-one_case NoVariable (At r s a z k) e = absurd (apart _ _ (sym e))
-one_case NoVariable NotAPlan e = let f = ap (λ (x : Fault). x.number) (same_refused e) in absurd (omega arith)
-one_case NoVariable NoVariable e = refl
+one_case (Ok v) (Ok w) e = ap (λ (x : Found). Ok (variable_as x)) (same_accepted {x = found_as v} {y = found_as w} e)
+one_case (Ok v) (Err NotAPlan) e = absurd (apart _ _ e)
+one_case (Ok v) (Err NoVariable) e = absurd (apart _ _ e)
+one_case (Err NotAPlan) (Ok v) e = absurd (apart _ _ (sym e))
+one_case (Err NotAPlan) (Err NotAPlan) e = refl
+one_case (Err NotAPlan) (Err NoVariable) e = let f = ap (λ (x : Fault). x.number) (same_refused e) in absurd (omega arith)
+one_case (Err NoVariable) (Ok v) e = absurd (apart _ _ (sym e))
+one_case (Err NoVariable) (Err NotAPlan) e = let f = ap (λ (x : Fault). x.number) (same_refused e) in absurd (omega arith)
+one_case (Err NoVariable) (Err NoVariable) e = refl
 
 -- ── the public functions ──
 
 pub is_plan_once : (t : List ℤ) (r s : Bool) → r ≡ is_plan t → s ≡ is_plan t → r ≡ s
 is_plan_once t r s p q = once p q
 
-pub find_once : (t : List ℤ) (n : ℕ) (r s : Located) → told_of r ≡ variable_of (segments_of t) n → told_of s ≡ variable_of (segments_of t) n → r ≡ s
+pub find_once : (t : List ℤ) (n : ℕ) (r s : Result Variable Absent) → told_of r ≡ variable_of (segments_of t) n → told_of s ≡ variable_of (segments_of t) n → r ≡ s
 find_once t n r s p q = one_case r s (once p q)
 
-pub locate_once : (t : List ℤ) (n : ℕ) (r s : Located) → told_of r ≡ locating t n → told_of s ≡ locating t n → r ≡ s
+pub locate_once : (t : List ℤ) (n : ℕ) (r s : Result Variable Absent) → told_of r ≡ locating t n → told_of s ≡ locating t n → r ≡ s
 locate_once t n r s p q = one_case r s (once p q)
 
 -- of locate_ways::find_in

@@ -21,8 +21,10 @@ use Rattle.cdi.proofs.Signs.{same_number_law}
 use Rattle.locate_plan.specs.Judging.{good_in}
 use Rattle.locate.specs.Answers.{told_of, Held}
 use Rattle.locate_ways.specs.Finding.{answer, inside_of, standing, Finds, Site}
-use Rattle.locate.specs.declared.Located.{Located}
-use Rattle.locate.specs.declared.Located.TheVariants.{Variable as At, NotAPlan, NoVariable}
+use Rattle.std.specs.Prelude.{Result, Ok, Err}
+use Rattle.locate.specs.declared.Variable.{Variable as One}
+use Rattle.locate.specs.declared.Absent.{Absent}
+use Rattle.locate.specs.declared.Absent.TheVariants.{NotAPlan, NoVariable}
 use Rattle.locate_rows.proofs.Numbers.{nots}
 use Rattle.locate_plan.proofs.Subtrees.{records_between}
 use Rattle.locate_plan.proofs.Tops.{Topped, topped, segments_more, good_segments_more, segments_out, segment_keeps_law}
@@ -90,7 +92,7 @@ begin t m h =
     }
 
 module _ {t : List ℤ} {m n i left : ℕ} (v : Passing t m n i left) where
-  pub no_segment : n ≤ i → told_of NoVariable ≡ variable_of (segments_of t) m
+  pub no_segment : n ≤ i → told_of (Err NoVariable) ≡ variable_of (segments_of t) m
   unfolding told_of walk_from
   no_segment h = sym (v.whole ∙ rw (segments_out t v.enough i n h))
 
@@ -165,14 +167,14 @@ module _ {t : List ℤ} {m n i left : ℕ} (v : Passing t m n i left) where
         pub segment_site : Site t (i + 1) y o
         segment_site = rw (ey, eo) (record { depth = 3; good = told_all.1; keeps = sym (segment_keeps_law t i top.origin) ∙ told_all.3 })
 
-        pub enters : {s : ℕ} → s ≡ natural (field t i 3) → {w : ℕ} → Finds t (i + 1) y o left w → (z : Located) → told_of z ≡ standing t s w → told_of z ≡ variable_of (segments_of t) m
+        pub enters : {s : ℕ} → s ≡ natural (field t i 3) → {w : ℕ} → Finds t (i + 1) y o left w → (z : Result One Absent) → told_of z ≡ standing t s w → told_of z ≡ variable_of (segments_of t) m
         unfolding inside_of segment_steps record_segment
         enters {s} es f z q = q ∙ f.same s ∙ rw (es, ey, eo) (sym (here ∙ get_or-append own rest none left (omega (arith, own_long))))
 
 -- ── what was found ──
 
 module _ {w : ℕ} where
-  pub told_none : (t : List ℤ) (space : ℕ) → w ≡ 18446744073709551615 → told_of NoVariable ≡ standing t space w
+  pub told_none : (t : List ℤ) (space : ℕ) → w ≡ 18446744073709551615 → told_of (Err NoVariable) ≡ standing t space w
   unfolding told_of standing
   told_none t space h = sym (rw (eq-eqb w 18446744073709551615 h))
 
@@ -181,15 +183,15 @@ module _ {w : ℕ} where
     told_record f = f h
 
     pub told_is : (t : List ℤ) (space : ℕ) {z k : ℕ} → z ≡ natural (field t (w % 4096) 3) → k ≡ natural (field t (w % 4096) 0)
-        → told_of (At (w % 4096) space (w / 4096) z k) ≡ standing t space w
+        → told_of (Ok (record { «record» = w % 4096; space = space; address = w / 4096; size = z; kind = k })) ≡ standing t space w
     unfolding told_of standing
     told_is t space ez ek = rw (ez, ek) (sym (rw (ne_eqb w 18446744073709551615 h)))
 
-pub none_held : (t : List ℤ) → Held t NoVariable
+pub none_held : (t : List ℤ) → Held t (Err NoVariable)
 unfolding Held
 none_held t = tt
 
-pub told_held : (t : List ℤ) (r s a z k : ℕ) → r * 8 + 8 ≤ length t → Held t (At r s a z k)
+pub told_held : (t : List ℤ) (r s a z k : ℕ) → r * 8 + 8 ≤ length t → Held t (Ok (record { «record» = r; space = s; address = a; size = z; kind = k }))
 unfolding Held
 told_held t r s a z k h = h
 
@@ -206,11 +208,11 @@ pub ruleset into_segment = (top_first, top_last, segment_site, few_before, found
 -- ── the whole answer ──
 
 module _ (t : List ℤ) (n : ℕ) {a : Bool} (fa : a ≡ is_plan t) where
-  pub no_plan : a ≡ false → told_of NotAPlan ≡ locating t n
+  pub no_plan : a ≡ false → told_of (Err NotAPlan) ≡ locating t n
   unfolding locating told_of
   no_plan h = sym (rw (← fa, h))
 
-  pub located : a ≡ true → (r : Located) → told_of r ≡ variable_of (segments_of t) n → told_of r ≡ locating t n
+  pub located : a ≡ true → (r : Result One Absent) → told_of r ≡ variable_of (segments_of t) n → told_of r ≡ locating t n
   unfolding locating
   located h r q = q ∙ sym (rw (← fa, h))
 

@@ -105,27 +105,27 @@ module _ (t : List ℤ) (i : ℕ) where
     pub all_is : read (read y -ℤ read z) ≡ field t i 7 -ℤ field t i 2
     all_is = read_is (read y -ℤ read z) all_fits ∙ rw (read_is y fy, read_is z fz, ey, ez)
 
-  module _ {z : ℤ} (fz : SFits w64 z) (ez : z ≡ field t i 7 -ℤ field t i 2) {u : ℕ} where
-    pub all_rises : u ≡ natural (read z) → u ≡ all_rise t i - all_fall t i
-    all_rises h = h ∙ rw (read_is z fz, ez) all_up
-
-    pub all_falls : u ≡ natural (neg_ℤ (read z)) → u ≡ all_fall t i - all_rise t i
-    all_falls h = h ∙ rw (read_is z fz, ez) all_down
-
-pub ruleset changing = (all_fits, all_is, all_rises, all_falls, rules)
+pub ruleset changing = (all_fits, all_is, rules)
 
 pub each_is : (t : List ℤ) (i : ℕ) {c r : ℕ} → c ≡ natural (field t i 6) → r ≡ natural (field t i 4) → c / r ≡ each_of t i
 unfolding each_of
 each_is t i p q = rw (p, q)
 
-module _ (t : List ℤ) (i a q : ℕ) {u d r : ℕ} (eu : u ≡ all_rise t i - all_fall t i) (ed : d ≡ all_fall t i - all_rise t i) (er : r ≡ natural (field t i 4)) where
+module _ (t : List ℤ) (i a q : ℕ) {z : ℤ} (fz : SFits w64 z) (ez : z ≡ field t i 7 -ℤ field t i 2) {u d r : ℕ}
+    (hu : u ≡ natural (read z)) (hd : d ≡ natural (neg_ℤ (read z))) (er : r ≡ natural (field t i 4)) where
+  eu : u ≡ all_rise t i - all_fall t i
+  eu = hu ∙ rw (read_is z fz, ez) (all_up t i)
+
+  ed : d ≡ all_fall t i - all_rise t i
+  ed = hd ∙ rw (read_is z fz, ez) (all_down t i)
+
   pub copy_up : d ≡ 0 → a + q * (u / r) ≡ copy_at t i a q
   unfolding copy_at
-  copy_up h = sym (rw (le-leb (all_fall t i) (all_rise t i) (omega arith), ← eu, ← er))
+  copy_up h = sym (rw (le-leb (all_fall t i) (all_rise t i) (omega (arith, ed)), ← eu, ← er))
 
   pub copy_down : (d ≡ 0 → ⊥) → a - q * (d / r) ≡ copy_at t i a q
   unfolding copy_at
-  copy_down h = sym (rw (lt-leb (all_fall t i) (all_rise t i) (omega arith), ← ed, ← er))
+  copy_down h = sym (rw (lt-leb (all_fall t i) (all_rise t i) (omega (arith, ed)), ← ed, ← er))
 
   pub rise_fits : a + q * ((all_rise t i - all_fall t i) / natural (field t i 4)) ≤ 2 ^ 32 → q * (u / r) < 2 ^ 64
   rise_fits h = let z = rw (← eu, ← er) at h in omega arith
@@ -140,7 +140,7 @@ module _ (t : List ℤ) (i a q : ℕ) {u d r : ℕ} (eu : u ≡ all_rise t i - a
   pub fall_below : q * ((all_fall t i - all_rise t i) / natural (field t i 4)) ≤ a → q * (d / r) ≤ a
   fall_below h = rw (← ed, ← er) at h
 
-pub ruleset copying = (each_is, copy_up, copy_down, rise_fits, sum_fits, fall_fits, fall_below, rules)
+pub ruleset copying = (some_raised, each_is, copy_up, copy_down, rise_fits, sum_fits, fall_fits, fall_below, rules)
 
 pub copy_of_is : (t : List ℤ) (i a n : ℕ) {k s : ℕ} → k ≡ each_of t i → s ≡ copy_at t i a (n / k) → ◌≡◌ {A = Copied} (record { start = s; number = n % k }) (copy_of t i a n)
 unfolding copy_of

@@ -36,22 +36,6 @@ fn all_change(table: &[i64], i: usize) -> i64
     change - offset
 }
 
-// What they rise by together, else 0.
-fn all_rise(table: &[i64], i: usize) -> u64
-    requires { (i * 8 + 8 ≤ length table.now) × (all_rise table.now i ≤ 2 ^ 33) × (all_fall table.now i ≤ 2 ^ 33) }
-    ensures { result ≡ all_rise table.now i - all_fall table.now i }
-{
-    rise(all_change(table, i))
-}
-
-// What they fall by together, else 0.
-fn all_fall(table: &[i64], i: usize) -> u64
-    requires { (i * 8 + 8 ≤ length table.now) × (all_rise table.now i ≤ 2 ^ 33) × (all_fall table.now i ≤ 2 ^ 33) }
-    ensures { result ≡ all_fall table.now i - all_rise table.now i }
-{
-    fall(all_change(table, i))
-}
-
 // The variables of one copy of group `i`.
 pub fn each(table: &[i64], i: usize) -> u64
     requires { (i * 8 + 8 ≤ length table.now) × (1 ≤ natural (field table.now i 4)) }
@@ -70,13 +54,15 @@ fn copy_at(table: &[i64], i: usize, first: u64, q: u64) -> u64
         × (all_rise table.now i ≤ 2 ^ 33) × (all_fall table.now i ≤ 2 ^ 33) }
     ensures { result ≡ copy_at table.now i first q }
 {
-    let up = all_rise(table, i);
-    let down = all_fall(table, i);
+    let change = all_change(table, i);
+    let up = rise(change);
+    let down = fall(change);
     let replication = natural_at(table, i, REPLICATION);
     if down == 0 {
-        return first + q * (up / replication);
+        first + q * (up / replication)
+    } else {
+        first - q * (down / replication)
     }
-    first - q * (down / replication)
 }
 
 // The copy of group `i` that holds variable `n` of all its copies. A group of one copy, the usual one, is entered without a division.
@@ -91,9 +77,8 @@ pub fn choose(table: &[i64], i: usize, first: u64, n: u64) -> Copied
         };
     }
     let variables = each(table, i);
-    let start = copy_at(table, i, first, n / variables);
     Copied {
-        start: start,
+        start: copy_at(table, i, first, n / variables),
         number: n % variables,
     }
 }

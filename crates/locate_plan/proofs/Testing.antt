@@ -19,8 +19,7 @@ use Rattle.extent.specs.declared.Extent.{Extent}
 use Rattle.extent.proofs.Joins.{nowhere_sound, join_sound, extent_sound, nowhere_join, join_nowhere, join_assoc}
 use Rattle.locate_plan.specs.Judging.{judged, good_in, items_extent, tested_of}
 use Rattle.locate_sums.specs.Sums.{limited, tells, element_extent, added_of}
-use Rattle.locate_sums.specs.declared.Tested.{Tested}
-use Rattle.locate_sums.specs.declared.Tested.TheVariants.{Good, Bad}
+use Rattle.std.specs.Prelude.{Option, Some, None}
 use Rattle.locate_rows.proofs.Numbers.{nots}
 use Rattle.locate_plan.proofs.Subtrees.{Ranged, ranged, items_out, good_out, items_more, good_more, Same, same_steps}
 use Rattle.locate_sums.proofs.Limits.{small_of, limited_first, limited_second, limited_once}
@@ -32,20 +31,20 @@ pub either : (a : Bool) → (a ≡ true) ⊎ (a ≡ false)
 either true = inl refl
 either false = inr refl
 
-good_bad : {A : Type 0} {e : Extent} → Good e ≡ Bad → A
+good_bad : {A : Type 0} {e : Extent} → Some e ≡ None → A
 good_bad h = absurd (let z : ◌≡◌ {A = ℕ} 0 1 = cc in omega arith)
 
 -- bad unless both parts hold
-judged_unless : (g : Bool) (e : Extent) → (g ≡ true → limited e ≡ true → ⊥) → judged g e ≡ Bad
+judged_unless : (g : Bool) (e : Extent) → (g ≡ true → limited e ≡ true → ⊥) → judged g e ≡ None
 unfolding judged
 judged_unless false e h = refl
 judged_unless true e h = ⊎_elim (λ w. absurd (h refl w)) (λ w. rw w) (either (limited e))
 
-pub judged_bad : (g : Bool) (e : Extent) → judged g e ≡ Bad → g ≡ true → limited e ≡ true → ⊥
+pub judged_bad : (g : Bool) (e : Extent) → judged g e ≡ None → g ≡ true → limited e ≡ true → ⊥
 unfolding judged
 judged_bad g e h p q = good_bad (rw (p, q) at h)
 
-pub judged_good : (g : Bool) (e m : Extent) → judged g e ≡ Good m → (g ≡ true) × (limited e ≡ true) × (e ≡ m)
+pub judged_good : (g : Bool) (e m : Extent) → judged g e ≡ Some m → (g ≡ true) × (limited e ≡ true) × (e ≡ m)
 unfolding judged
 judged_good false e m h = good_bad (sym h)
 judged_good true e m h = ⊎_elim (λ w. (refl, w, is w)) (λ w. good_bad (sym (rw w at h))) (either (limited e))
@@ -54,7 +53,7 @@ judged_good true e m h = ⊎_elim (λ w. (refl, w, is w)) (λ w. good_bad (sym (
     is w = let f = rw w at h in cc
 
 -- the same of an element that is added
-pub added_good : (t : List ℤ) (i : ℕ) (m before whole : Extent) → added_of t i m before ≡ Good whole
+pub added_good : (t : List ℤ) (i : ℕ) (m before whole : Extent) → added_of t i m before ≡ Some whole
     → (tells t i (element_extent t i m) ≡ true) × (limited (join before (element_extent t i m)) ≡ true) × (join before (element_extent t i m) ≡ whole)
 unfolding added_of
 added_good t i m before whole h = by (limited own) (tells t i own) (limited (join before own)) h
@@ -62,13 +61,13 @@ added_good t i m before whole h = by (limited own) (tells t i own) (limited (joi
     own : Extent
     own = element_extent t i m
 
-    by : (a b c : Bool) → cond (a && (b && c)) (Good (join before own)) Bad ≡ Good whole → (b ≡ true) × (c ≡ true) × (join before own ≡ whole)
+    by : (a b c : Bool) → cond (a && (b && c)) (Some (join before own)) None ≡ Some whole → (b ≡ true) × (c ≡ true) × (join before own ≡ whole)
     by true true true h = (refl, refl, (cc))
     by true true false h = good_bad (sym h)
     by true false c h = good_bad (sym h)
     by false b c h = good_bad (sym h)
 
-pub added_bad : (t : List ℤ) (i : ℕ) (m before : Extent) → added_of t i m before ≡ Bad
+pub added_bad : (t : List ℤ) (i : ℕ) (m before : Extent) → added_of t i m before ≡ None
     → limited (element_extent t i m) ≡ true → tells t i (element_extent t i m) ≡ true → limited (join before (element_extent t i m)) ≡ true → ⊥
 unfolding added_of
 added_bad t i m before h a b c = good_bad (rw (a, b, c) at h)
@@ -120,7 +119,7 @@ module _ {t : List ℤ} {d from end i : ℕ} {before : Extent} (v : TestedTo t d
   pub before_small : Small before
   before_small = small_of before v.sound v.kept
 
-  pub done : end ≤ i → Good before ≡ tested_of t d from end
+  pub done : end ≤ i → Some before ≡ tested_of t d from end
   unfolding judged steps extent_of
   done h = sym (v.left ∙ rw (good_out t v.enough d i end h, items_out t v.enough i end h, join_nowhere before v.sound, v.kept))
 
@@ -139,12 +138,12 @@ module _ {t : List ℤ} {d from end i : ℕ} {before : Extent} (v : TestedTo t d
         (join before (extent_of (steps i (item_of t i (items_from t (pred v.enough) (i + 1) (next_of t i)) (items_from t (pred v.enough) (next_of t i) end)))))
     here = v.left ∙ rw (more, good_more t (pred v.enough) i end b d, items_more t (pred v.enough) i end b)
 
-    pub too_deep : 24 < d → Bad ≡ tested_of t d from end
+    pub too_deep : 24 < d → None ≡ tested_of t d from end
     unfolding judged
     too_deep h = sym (here ∙ rw (lt-leb d 24 h))
 
     module _ (hd : d ≤ 24) {R : Bool} (fr : R ≡ item_fits t i end) where
-      pub unfit : R ≡ false → Bad ≡ tested_of t d from end
+      pub unfit : R ≡ false → None ≡ tested_of t d from end
       unfolding judged
       unfit h = sym (here ∙ rw (le-leb d 24 hd, ← fr, h))
 
@@ -173,7 +172,7 @@ module _ {t : List ℤ} {d from end i : ℕ} {before : Extent} (v : TestedTo t d
         abbrev rest : Extent
         rest = extent_of (steps x (items_from t (pred v.enough) x end))
 
-        members_wrong : G ≡ false → tested_of t d from end ≡ Bad
+        members_wrong : G ≡ false → tested_of t d from end ≡ None
         unfolding judged
         members_wrong h = here ∙ rw (le-leb d 24 hd, ← fr, hr, ← ex, same.good, h)
 
@@ -199,35 +198,35 @@ module _ {t : List ℤ} {d from end i : ℕ} {before : Extent} (v : TestedTo t d
                 rw (← ex, inner) (ap (λ (e : Extent). join before e) (element_join t i (items_from t (x - (i + 1)) (i + 1) x) ran.one (items_from t (pred v.enough) x end) x))
                 ∙ sym (join_assoc before own rest)
 
-        module _ {c : Tested} (fc : c ≡ tested_of t (d + 1) (i + 1) x) where
+        module _ {c : Option Extent} (fc : c ≡ tested_of t (d + 1) (i + 1) x) where
           judge : c ≡ judged G E
           unfolding tested_of
           judge = fc
 
-          pub members_bad : c ≡ Bad → Bad ≡ tested_of t d from end
+          pub members_bad : c ≡ None → None ≡ tested_of t d from end
           members_bad h = sym (⊎_elim good members_wrong (either G))
             where
-              good : G ≡ true → tested_of t d from end ≡ Bad
+              good : G ≡ true → tested_of t d from end ≡ None
               good g = settled g ∙ judged_unless _ _ (λ _ w.
                   judged_bad G E (sym judge ∙ h) g (members_limited t i end x ran ex (limited_second before own (limited_first (join before own) rest w))))
 
-          module _ {m : Extent} (hm : c ≡ Good m) where
+          module _ {m : Extent} (hm : c ≡ Some m) where
             known : (G ≡ true) × (limited E ≡ true) × (E ≡ m)
             known = judged_good G E m (sym judge ∙ hm)
 
             pub members_small : Small m
             members_small = rw known.2 at (small_of E (items_sound t (i + 1) x) known.1)
 
-            module _ {a : Tested} (fa : a ≡ added_of t i m before) where
+            module _ {a : Option Extent} (fa : a ≡ added_of t i m before) where
               adds : a ≡ added_of t i E before
               adds = fa ∙ rw known.2
 
-              pub element_bad : a ≡ Bad → Bad ≡ tested_of t d from end
+              pub element_bad : a ≡ None → None ≡ tested_of t d from end
               element_bad h = sym (settled known.0 ∙ judged_unless _ _ (λ g w.
                   let l = limited_first (join before own) rest w in
                   added_bad t i E before (sym adds ∙ h) (limited_second before own l) (both_left (tells t i own) (items_good t (pred v.enough) d x end) g) l))
 
-              pub onward : {whole : Extent} → a ≡ Good whole → TestedTo t d from end x whole
+              pub onward : {whole : Extent} → a ≡ Some whole → TestedTo t d from end x whole
               onward {whole} h =
                   let g = added_good t i E before whole (sym adds ∙ h) in
                   rw (← g.2) (record {
@@ -242,24 +241,22 @@ module _ {t : List ℤ} {d from end i : ℕ} {before : Extent} (v : TestedTo t d
 
 pub ruleset testing = (start, done, too_deep, unfit, members_bad, element_bad, onward, nots, rules)
 
-pub fit : (t : List ℤ) (i e : ℕ) {R : Bool} → R ≡ item_fits t i e → R ≡ true → item_fits t i e ≡ true
-fit t i e p q = sym p ∙ q
+-- ── at a record that passes ──
 
-pub ruleset entering = (fit, members_small, before_small, nots, rules)
+module _ (t : List ℤ) (i e : ℕ) (b : i < e) {R : Bool} (fr : R ≡ item_fits t i e) (hr : R ≡ true) where
+  passed : Ranged t i e
+  passed = ranged t i e b (sym fr ∙ hr)
 
--- ── the end of a subtree ──
+  pub next_after : i < natural (field t i 5)
+  next_after = omega (arith, passed.ahead)
 
-module _ (t : List ℤ) (i e : ℕ) (b : i < e) (h : item_fits t i e ≡ true) where
-  pub next_after : {x : ℕ} → x ≡ natural (field t i 5) → i < x
-  next_after ex = omega (arith, (ranged t i e b h).ahead)
-
-  pub next_upto : {x : ℕ} → x ≡ natural (field t i 5) → x ≤ e
-  next_upto ex = omega (arith, (ranged t i e b h).nests)
+  pub next_upto : natural (field t i 5) ≤ e
+  next_upto = omega (arith, passed.nests)
 
   pub replication_least : 1 ≤ natural (field t i 4)
-  replication_least = (ranged t i e b h).one
+  replication_least = passed.one
 
   pub replication_most : natural (field t i 4) ≤ 2147483647
-  replication_most = (ranged t i e b h).most
+  replication_most = passed.most
 
-pub ruleset item_nexts = (next_after, next_upto, replication_least, replication_most, rules)
+pub ruleset entering = (next_after, next_upto, replication_least, replication_most, members_small, before_small, nots, rules)

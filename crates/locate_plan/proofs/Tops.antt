@@ -22,8 +22,7 @@ use Rattle.extent.proofs.Joins.{extent_anywhere}
 use Rattle.extent.proofs.Reached.{fits_of, extent_count, extent_keeps}
 use Rattle.locate_plan.specs.Judging.{judged, good_in, items_extent, tested_of, segment_tells, planned_of}
 use Rattle.locate_sums.specs.Sums.{limited, tells}
-use Rattle.locate_sums.specs.declared.Tested.{Tested}
-use Rattle.locate_sums.specs.declared.Tested.TheVariants.{Good, Bad}
+use Rattle.std.specs.Prelude.{Option, Some, None}
 use Rattle.locate_rows.proofs.Numbers.{nots, in_of}
 use Rattle.locate_sums.proofs.Limits.{of_limited, small_of}
 use Rattle.locate_plan.proofs.Elements.{items_sound, tells_told}
@@ -156,7 +155,7 @@ module _ {t : List ℤ} {end i counted : ℕ} (v : CountedTo t end i counted) wh
         unfolding segment_tells
         settled = here ∙ rw (← fr, hr, segment_tells_law, segment_keeps_law t i top.origin, segment_count, ← ex)
 
-        module _ {c : Tested} (fc : c ≡ tested_of t 3 (i + 1) x) where
+        module _ {c : Option Extent} (fc : c ≡ tested_of t 3 (i + 1) x) where
           judge : c ≡ judged (good_in t 3 (i + 1) x) E
           unfolding tested_of
           judge = fc
@@ -167,7 +166,7 @@ module _ {t : List ℤ} {end i counted : ℕ} (v : CountedTo t end i counted) wh
               let f = fits_of (natural (field t i 2)) E (both_right (tells t i E) (fits_at (natural (field t i 2)) E) h) in
               omega (arith, f, top.origin, (items_sound t (i + 1) x).start)
 
-          pub inside_bad : c ≡ Bad → false ≡ planned_of t end
+          pub inside_bad : c ≡ None → false ≡ planned_of t end
           inside_bad h = sym (⊎_elim (λ y. absurd (clash y)) (λ y. y) (either (planned_of t end)))
             where
               clash : planned_of t end ≡ true → ⊥
@@ -178,7 +177,7 @@ module _ {t : List ℤ} {end i counted : ℕ} (v : CountedTo t end i counted) wh
                   let l = leb-true (counted + (E.count + others)) 1000000 p.1 in
                   judged_bad (good_in t 3 (i + 1) x) E (sym judge ∙ h) q.0 (of_limited E (record { spans = w; counts = omega arith }))
 
-          module _ {e : Extent} (he : c ≡ Good e) where
+          module _ {e : Extent} (he : c ≡ Some e) where
             known : (good_in t 3 (i + 1) x ≡ true) × (limited E ≡ true) × (E ≡ e)
             known = judged_good (good_in t 3 (i + 1) x) E e (sym judge ∙ he)
 
@@ -207,22 +206,20 @@ module _ {t : List ℤ} {end i counted : ℕ} (v : CountedTo t end i counted) wh
 
 pub ruleset counting = (begin, all_good, no_segment, inside_bad, untold, too_many, next_segment, nots, rules)
 
-pub top_fit : (t : List ℤ) (i e : ℕ) {R : Bool} → R ≡ segment_fits t i e → R ≡ true → segment_fits t i e ≡ true
-top_fit t i e p q = sym p ∙ q
+module _ (t : List ℤ) (i e : ℕ) {R : Bool} (fr : R ≡ segment_fits t i e) (hr : R ≡ true) where
+  passed : Topped t i e
+  passed = topped t i e (sym fr ∙ hr)
 
-pub ruleset entering_top = (inside_small, top_fit, nots, rules)
-
-module _ (t : List ℤ) (i e : ℕ) (h : segment_fits t i e ≡ true) where
   pub origin_low : natural (field t i 2) ≤ 2147483647
-  origin_low = (topped t i e h).origin
+  origin_low = passed.origin
 
-  pub top_after : {x : ℕ} → x ≡ natural (field t i 5) → i < x
-  top_after ex = omega (arith, (topped t i e h).ahead)
+  pub top_after : i < natural (field t i 5)
+  top_after = omega (arith, passed.ahead)
 
-  pub top_upto : {x : ℕ} → x ≡ natural (field t i 5) → x ≤ e
-  top_upto ex = omega (arith, (topped t i e h).nests)
+  pub top_upto : natural (field t i 5) ≤ e
+  top_upto = omega (arith, passed.nests)
 
-pub ruleset top_nexts = (origin_low, top_after, top_upto, rules)
+pub ruleset entering_top = (origin_low, top_after, top_upto, inside_small, nots, rules)
 
 -- ── the whole table ──
 
@@ -244,9 +241,9 @@ pub ruleset planning = (ragged, too_long, plan_is, rules)
 -- ── what a segment tells ──
 
 module _ (t : List ℤ) (i : ℕ) (e : Extent) {a : Bool} (fa : a ≡ tells t i e) where
-  pub segment_untold : a ≡ false → false ≡ segment_tells t i e
+  pub segment_untold : a ≡ false → a ≡ segment_tells t i e
   unfolding segment_tells
-  segment_untold h = sym (rw (← fa, h))
+  segment_untold h = h ∙ sym (rw (← fa, h))
 
   pub segment_fits_is : a ≡ true → {o : ℕ} {b : Bool} → o ≡ natural (field t i 2) → b ≡ fits_at o e → b ≡ segment_tells t i e
   unfolding segment_tells

@@ -1,16 +1,14 @@
 -- The words of the plan test's code, which goes by extents where the definition of a plan copies groups out.
-use Rattle.std.specs.Prelude.{List, Bool, cond, ◌&&◌, ℕ, ◌-◌, leb, ℤ}
+use Rattle.std.specs.Prelude.{List, Bool, Option, Some, None, cond, ◌&&◌, ℕ, ◌-◌, leb, ℤ}
 use Rattle.cdi.specs.Rules.{natural}
 use Rattle.cdi.specs.Walk.{steps, total}
 use Rattle.cdi.specs.Plans.{field, items_in, segments_from, items_good, segments_good}
 use Rattle.extent.specs.Reach.{extent_of, fits_at}
 use Rattle.extent.specs.declared.Extent.{Extent}
-use Rattle.locate_sums.specs.declared.Tested.{Tested}
-use Rattle.locate_sums.specs.declared.Tested.TheVariants.{Good, Bad}
 use Rattle.locate_sums.specs.Sums.{limited, tells}
 
-unfoldable pub judged : Bool → Extent → Tested
-judged good e = cond (good && limited e) (Good e) Bad
+unfoldable pub judged : Bool → Extent → Option Extent
+judged good e = cond (good && limited e) (Some e) None
 
 -- the records from i to before e
 abbrev pub good_in : List ℤ → ℕ → ℕ → ℕ → Bool
@@ -19,7 +17,7 @@ good_in t d i e = items_good t (e - i) d i e
 unfoldable pub items_extent : List ℤ → ℕ → ℕ → Extent
 items_extent t i e = extent_of (steps i (items_in t i e))
 
-unfoldable pub tested_of : List ℤ → ℕ → ℕ → ℕ → Tested
+unfoldable pub tested_of : List ℤ → ℕ → ℕ → ℕ → Option Extent
 tested_of t d i e = judged (good_in t d i e) (items_extent t i e)
 
 -- a segment whose members have extent e

@@ -8,9 +8,10 @@ ghost use Rattle.extent.specs.Reach.{Small};
 ghost use Rattle.locate_plan.specs.Judging.{tested_of, segment_tells, planned_of};
 
 use extent::{Extent, fits, nothing};
+use locate_copies::next_record;
 use locate_ranges::{item_fits, segment_fits};
-use locate_rows::{NEXT, START, rise_at};
-use locate_sums::{Tested, added, told};
+use locate_rows::{START, rise_at};
+use locate_sums::{added, told};
 use terms::{FIELDS, MOST_VARIABLES};
 
 // "it has at most 4,095 records"
@@ -36,41 +37,27 @@ const MEMBERS: u64 = 3;
 
 const DEEPEST: u64 = terms::DEEPEST as u64;
 
-// The number of the record after the subtree of data element `i`.
-fn item_next(table: &[i64], i: usize, end: usize) -> usize
-    requires { (i < end) × (end * 8 ≤ length table.now) × (item_fits table.now i end ≡ true) }
-    ensures { (result ≡ natural (field table.now i 5)) × (i < result) × (result ≤ end) × (1 ≤ natural (field table.now i 4)) × (natural (field table.now i 4) ≤ 2147483647) }
-{
-    rise_at(table, i, NEXT) as usize
-}
-
 // Tests the data elements from record `from` to before `end`, which stand at `depth`.
-fn items(table: &[i64], from: usize, end: usize, depth: u64) -> Tested
+fn items(table: &[i64], from: usize, end: usize, depth: u64) -> Option<Extent>
     requires { (from ≤ end) × (end ≤ 4095) × (end * 8 ≤ length table.now) × (depth ≤ 25) }
     ensures { result ≡ tested_of table.now depth from end }
 {
     let mut i = from;
     let mut before = nothing();
+    // A `while`: a step goes past a whole subtree.
     while i < end {
         if DEEPEST < depth {
-            return Tested::Bad;
+            return None;
         }
         if !item_fits(table, i, end) {
-            return Tested::Bad;
+            return None;
         }
-        let next = item_next(table, i, end);
-        let inside = items(table, i + 1, next, depth + 1);
-        let Tested::Good(members) = inside else {
-            return Tested::Bad;
-        };
-        let more = added(table, i, members, before);
-        let Tested::Good(whole) = more else {
-            return Tested::Bad;
-        };
-        before = whole;
+        let next = next_record(table, i, end);
+        let members = items(table, i + 1, next, depth + 1)?;
+        before = added(table, i, members, before)?;
         i = next;
     }
-    Tested::Good(before)
+    Some(before)
 }
 
 // Whether the last two numbers of segment `i` are what the extent of its members says, and its walk keeps the address.
@@ -78,19 +65,7 @@ fn segment_told(table: &[i64], i: usize, e: Extent) -> bool
     requires { (i * 8 + 8 ≤ length table.now) × (natural (field table.now i 2) ≤ 2147483647) × Small e }
     ensures { result ≡ segment_tells table.now i e }
 {
-    if !told(table, i, e) {
-        return false;
-    }
-    let origin = rise_at(table, i, START);
-    fits(origin, e)
-}
-
-// The number of the record after the subtree of segment `i`.
-fn segment_next(table: &[i64], i: usize, end: usize) -> usize
-    requires { (i < end) × (end * 8 ≤ length table.now) × (segment_fits table.now i end ≡ true) }
-    ensures { (result ≡ natural (field table.now i 5)) × (i < result) × (result ≤ end) × (natural (field table.now i 2) ≤ 2147483647) }
-{
-    rise_at(table, i, NEXT) as usize
+    told(table, i, e) && fits(rise_at(table, i, START), e)
 }
 
 // Whether the first `end` records are segments with their subtrees, and have at most 1,000,000 variables together.
@@ -100,13 +75,13 @@ pub fn segments(table: &[i64], end: usize) -> bool
 {
     let mut i = 0;
     let mut count: u64 = 0;
+    // A `while`: a step goes past a whole subtree.
     while i < end {
         if !segment_fits(table, i, end) {
             return false;
         }
-        let next = segment_next(table, i, end);
-        let inside = items(table, i + 1, next, MEMBERS);
-        let Tested::Good(e) = inside else {
+        let next = next_record(table, i, end);
+        let Some(e) = items(table, i + 1, next, MEMBERS) else {
             return false;
         };
         if !segment_told(table, i, e) {
@@ -116,7 +91,7 @@ pub fn segments(table: &[i64], end: usize) -> bool
         if MOST_VARIABLES - count < own {
             return false;
         }
-        count = count + own;
+        count += own;
         i = next;
     }
     true

@@ -20,94 +20,70 @@ const FIRST_PLACE: u64 = FIRST_LINE as u64;
 const LAST_PLACE: u64 = 65534;
 
 // Whether number `which` of record `i` lies from `least` to `most`.
+#[tactic(auto, using(locate_rows::proofs::Numbers::lies_law))]
 fn lies(table: &[i64], i: usize, which: usize, least: u64, most: u64) -> bool
     requires { (i * 8 + 8 ≤ length table.now) × (which < 8) }
     ensures { result ≡ within (pos least) (pos most) (field table.now i which) }
 {
     let below = fall_at(table, i, which);
     let number = rise_at(table, i, which);
-    if 0 < below {
-        return false;
-    }
-    if number < least {
-        return false;
-    }
-    number <= most
+    below == 0 && least <= number && number <= most
 }
 
 // Whether number `which` of record `i` is `number`.
+#[tactic(auto, using(locate_rows::proofs::Numbers::equals_law))]
 pub fn equals(table: &[i64], i: usize, which: usize, number: u64) -> bool
     requires { (i * 8 + 8 ≤ length table.now) × (which < 8) }
     ensures { result ≡ same_number (field table.now i which) (pos number) }
 {
     let below = fall_at(table, i, which);
     let it = rise_at(table, i, which);
-    if 0 < below {
-        return false;
-    }
-    it == number
+    below == 0 && it == number
 }
 
 // "a float's 2, 4 or 8"
+#[tactic(auto, unfolding(cdi::specs::Plans::one_of, cdi::specs::Lists::any))]
 fn float_size(table: &[i64], i: usize) -> bool
     requires { i * 8 + 8 ≤ length table.now }
     ensures { result ≡ one_of (2 ∷ 4 ∷ 8 ∷ []) (field table.now i 3) }
 {
-    if equals(table, i, EXTRA, 2) {
-        return true;
-    }
-    if equals(table, i, EXTRA, 4) {
-        return true;
-    }
-    equals(table, i, EXTRA, 8)
+    equals(table, i, EXTRA, 2) || equals(table, i, EXTRA, 4) || equals(table, i, EXTRA, 8)
 }
 
 // "An int's size is exactly the text 1, 2, 4 or 8"
+#[tactic(auto, unfolding(cdi::specs::Plans::one_of, cdi::specs::Lists::any))]
 fn int_size(table: &[i64], i: usize) -> bool
     requires { i * 8 + 8 ≤ length table.now }
     ensures { result ≡ one_of (1 ∷ 2 ∷ 4 ∷ 8 ∷ []) (field table.now i 3) }
 {
-    if equals(table, i, EXTRA, 1) {
-        return true;
-    }
-    float_size(table, i)
+    equals(table, i, EXTRA, 1) || float_size(table, i)
 }
 
 // Whether the kind is that of a data element, and the size is one of it.
+#[tactic(auto, using(locate_rows::proofs::Numbers::only), unfolding(cdi::specs::Plans::size_fits))]
 fn size_fits(table: &[i64], i: usize) -> bool
     requires { i * 8 + 8 ≤ length table.now }
     ensures { result ≡ size_fits (natural (field table.now i 0)) (field table.now i 3) }
 {
-    let kind = rise_at(table, i, KIND);
-    if kind == GROUP {
-        return equals(table, i, EXTRA, 0);
+    match rise_at(table, i, KIND) {
+        GROUP => equals(table, i, EXTRA, 0),
+        INT => int_size(table, i),
+        STRING => lies(table, i, EXTRA, 1, MOST_TEXT),
+        EVENTID => equals(table, i, EXTRA, 8),
+        FLOAT => float_size(table, i),
+        _ => false,
     }
-    if kind == INT {
-        return int_size(table, i);
-    }
-    if kind == STRING {
-        return lies(table, i, EXTRA, 1, MOST_TEXT);
-    }
-    if kind == EVENTID {
-        return equals(table, i, EXTRA, 8);
-    }
-    if kind == FLOAT {
-        return float_size(table, i);
-    }
-    false
 }
 
 // Whether the offset is a 32-bit signed number.
+#[tactic(auto, using(locate_rows::proofs::Numbers::offset_law))]
 fn offset_fits(table: &[i64], i: usize) -> bool
     requires { i * 8 + 8 ≤ length table.now }
     ensures { result ≡ offset_fits (field table.now i 2) }
 {
     let up = rise_at(table, i, START);
     let down = fall_at(table, i, START);
-    if MOST_SIGNED < up {
-        return false;
-    }
-    down <= MOST_DOWN
+    up <= MOST_SIGNED && down <= MOST_DOWN
 }
 
 // Whether the replication is one of a group, or 1 for any other kind.
@@ -115,11 +91,11 @@ fn replication_fits(table: &[i64], i: usize) -> bool
     requires { i * 8 + 8 ≤ length table.now }
     ensures { result ≡ replication_fits (natural (field table.now i 0)) (field table.now i 4) }
 {
-    let kind = rise_at(table, i, KIND);
-    if kind == GROUP {
-        return lies(table, i, REPLICATION, 1, MOST_SIGNED);
+    if rise_at(table, i, KIND) == GROUP {
+        lies(table, i, REPLICATION, 1, MOST_SIGNED)
+    } else {
+        equals(table, i, REPLICATION, 1)
     }
-    equals(table, i, REPLICATION, 1)
 }
 
 // Whether the place before it is smaller.
@@ -133,17 +109,12 @@ fn rises(table: &[i64], i: usize) -> bool
 }
 
 // Whether the place is one of content behind the first line, and behind the place before it.
+#[tactic(auto, unfolding(cdi::specs::Plans::place_fits))]
 fn place_fits(table: &[i64], i: usize) -> bool
     requires { i * 8 + 8 ≤ length table.now }
     ensures { result ≡ place_fits table.now i }
 {
-    if !lies(table, i, PLACE, FIRST_PLACE, LAST_PLACE) {
-        return false;
-    }
-    if i == 0 {
-        return true;
-    }
-    rises(table, i)
+    lies(table, i, PLACE, FIRST_PLACE, LAST_PLACE) && (i == 0 || rises(table, i))
 }
 
 // Whether the subtree ends at `end` or before; that of a variable with its own record.
@@ -151,54 +122,37 @@ fn next_fits(table: &[i64], i: usize, end: usize) -> bool
     requires { i * 8 + 8 ≤ length table.now }
     ensures { result ≡ next_fits (eqb (natural (field table.now i 0)) 2) i end (field table.now i 5) }
 {
-    let kind = rise_at(table, i, KIND);
     let least = i as u64 + 1;
-    if kind == GROUP {
-        return lies(table, i, NEXT, least, end as u64);
+    if rise_at(table, i, KIND) == GROUP {
+        lies(table, i, NEXT, least, end as u64)
+    } else {
+        equals(table, i, NEXT, least)
     }
-    equals(table, i, NEXT, least)
 }
 
 // Whether the record is one of a data element whose parent's subtree ends at `end`.
+#[tactic(auto, unfolding(cdi::specs::Plans::item_fits))]
 pub fn item_fits(table: &[i64], i: usize, end: usize) -> bool
     requires { i * 8 + 8 ≤ length table.now }
     ensures { result ≡ item_fits table.now i end }
 {
-    if !size_fits(table, i) {
-        return false;
-    }
-    if !place_fits(table, i) {
-        return false;
-    }
-    if !offset_fits(table, i) {
-        return false;
-    }
-    if !replication_fits(table, i) {
-        return false;
-    }
-    next_fits(table, i, end)
+    size_fits(table, i)
+        && place_fits(table, i)
+        && offset_fits(table, i)
+        && replication_fits(table, i)
+        && next_fits(table, i, end)
 }
 
 // Whether the record is one of a segment in a table of `end` records.
+#[tactic(auto, using(locate_rows::proofs::Numbers::only), unfolding(cdi::specs::Plans::segment_fits, cdi::specs::Plans::replication_fits, cdi::specs::Plans::next_fits))]
 pub fn segment_fits(table: &[i64], i: usize, end: usize) -> bool
     requires { i * 8 + 8 ≤ length table.now }
     ensures { result ≡ segment_fits table.now i end }
 {
-    let kind = rise_at(table, i, KIND);
-    if kind != SEGMENT {
-        return false;
-    }
-    if !place_fits(table, i) {
-        return false;
-    }
-    if !lies(table, i, START, 0, MOST_SIGNED) {
-        return false;
-    }
-    if !lies(table, i, EXTRA, 0, MOST_SPACE) {
-        return false;
-    }
-    if !equals(table, i, REPLICATION, 1) {
-        return false;
-    }
-    lies(table, i, NEXT, i as u64 + 1, end as u64)
+    rise_at(table, i, KIND) == SEGMENT
+        && place_fits(table, i)
+        && lies(table, i, START, 0, MOST_SIGNED)
+        && lies(table, i, EXTRA, 0, MOST_SPACE)
+        && equals(table, i, REPLICATION, 1)
+        && lies(table, i, NEXT, i as u64 + 1, end as u64)
 }

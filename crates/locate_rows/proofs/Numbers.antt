@@ -5,7 +5,7 @@ use mathlib.Core.Bool.{Bool, true, false, not, ◌&&◌, ◌||◌, false≢true}
 use Prim.Native.Nat.{ℕ, zero, suc, ◌^◌, ◌≤◌, ◌<◌}
 use native.Mathlib.Omega.{arith}
 use borrow.Author.Rules.{rules}
-use borrow.Author.Tests.{le-ltb, le-leb, lt-leb, leb-true}
+use borrow.Author.Tests.{le-ltb, le-leb, leb-true, ne_eqb}
 use lib.Dec.{T, eqb, leb}
 use lib.IntN.{ℤ, pos, negsuc, neg_ℤ, nat_abs}
 use lib.Signed.{lt_z, non_neg}
@@ -83,57 +83,22 @@ some_raised t i f h = above_zero (field t i f) {m = 0} (omega arith)
 
 pub ruleset raising = (raised, some_raised, rules)
 
--- ── from one number to another ──
+-- ── the tests by the two parts of a number ──
 
-negative_out : (lo hi : ℕ) (z : ℤ) → 0 < natural (neg_ℤ z) → within (pos lo) (pos hi) z ≡ false
+above_none : (n : ℕ) → eqb (suc n) 0 ≡ false
+above_none n = ne_eqb (suc n) 0 (λ (e : suc n ≡ 0). omega arith)
+
+pub lies_law : (lo hi : ℕ) (z : ℤ) → within (pos lo) (pos hi) z ≡ eqb (natural (neg_ℤ z)) 0 && leb lo (natural z) && leb (natural z) hi
 unfolding within natural
-negative_out lo hi (pos zero) h = absurd (omega arith)
-negative_out lo hi (pos (suc n)) h = absurd (omega arith)
-negative_out lo hi (negsuc n) h = refl
+lies_law lo hi (pos zero) = refl
+lies_law lo hi (pos (suc n)) = refl
+lies_law lo hi (negsuc n) = rw (above_none n)
 
-low_out : (lo hi : ℕ) (z : ℤ) → natural z < lo → within (pos lo) (pos hi) z ≡ false
-unfolding within natural
-low_out lo hi (pos n) h = rw (lt-leb lo n h)
-low_out lo hi (negsuc n) h = refl
-
-high_in : (lo hi : ℕ) (z : ℤ) → natural (neg_ℤ z) ≤ 0 → lo ≤ natural z → within (pos lo) (pos hi) z ≡ leb (natural z) hi
-unfolding within natural
-high_in lo hi (pos n) d h = rw (le-leb lo n h)
-high_in lo hi (negsuc n) d h = absurd (omega arith)
-
-module _ (t : List ℤ) (i f lo hi : ℕ) {u d : ℕ} (eu : u ≡ natural (field t i f)) (ed : d ≡ natural (neg_ℤ (field t i f))) where
-  pub lies_negative : 0 < d → false ≡ within (pos lo) (pos hi) (field t i f)
-  lies_negative h = sym (negative_out lo hi (field t i f) (rw ed at h))
-
-  pub lies_low : u < lo → false ≡ within (pos lo) (pos hi) (field t i f)
-  lies_low h = sym (low_out lo hi (field t i f) (rw eu at h))
-
-  pub lies_high : d ≤ 0 → lo ≤ u → leb u hi ≡ within (pos lo) (pos hi) (field t i f)
-  lies_high n h = sym (high_in lo hi (field t i f) (rw ed at n) (rw eu at h) ∙ rw (← eu))
-
-pub ruleset lying = (lies_negative, lies_low, lies_high, rules)
-
--- ── equal to a number ──
-
-negative_other : (n : ℕ) (z : ℤ) → 0 < natural (neg_ℤ z) → same_number z (pos n) ≡ false
+pub equals_law : (n : ℕ) (z : ℤ) → same_number z (pos n) ≡ eqb (natural (neg_ℤ z)) 0 && eqb (natural z) n
 unfolding same_number natural
-negative_other n (pos zero) h = absurd (omega arith)
-negative_other n (pos (suc m)) h = absurd (omega arith)
-negative_other n (negsuc m) h = refl
-
-plain_equal : (n : ℕ) (z : ℤ) → natural (neg_ℤ z) ≤ 0 → same_number z (pos n) ≡ eqb (natural z) n
-unfolding same_number natural
-plain_equal n (pos m) h = refl
-plain_equal n (negsuc m) h = absurd (omega arith)
-
-module _ (t : List ℤ) (i f n : ℕ) {u d : ℕ} (eu : u ≡ natural (field t i f)) (ed : d ≡ natural (neg_ℤ (field t i f))) where
-  pub equals_negative : 0 < d → false ≡ same_number (field t i f) (pos n)
-  equals_negative h = sym (negative_other n (field t i f) (rw ed at h))
-
-  pub equals_is : d ≤ 0 → eqb u n ≡ same_number (field t i f) (pos n)
-  equals_is h = sym (plain_equal n (field t i f) (rw ed at h) ∙ rw (← eu))
-
-pub ruleset equalling = (equals_negative, equals_is, rules)
+equals_law n (pos zero) = refl
+equals_law n (pos (suc m)) = refl
+equals_law n (negsuc m) = rw (above_none m)
 
 -- ── what a test that passes says ──
 
@@ -157,25 +122,11 @@ only_of n z h = ap natural (same_number_law z (pos n) (sym (only n z) ∙ h))
 
 -- ── offsets ──
 
-up_out : (z : ℤ) → 2147483647 < natural z → offset_fits z ≡ false
+pub offset_law : (z : ℤ) → offset_fits z ≡ leb (natural z) 2147483647 && leb (natural (neg_ℤ z)) 2147483648
 unfolding offset_fits within natural
-up_out (pos n) h = rw (lt-leb n 2147483647 h)
-up_out (negsuc n) h = absurd (omega arith)
-
-down_in : (z : ℤ) → natural z ≤ 2147483647 → offset_fits z ≡ leb (natural (neg_ℤ z)) 2147483648
-unfolding offset_fits within natural
-down_in (pos zero) h = refl
-down_in (pos (suc n)) h = rw (le-leb (suc n) 2147483647 h)
-down_in (negsuc n) h =
+offset_law (pos zero) = refl
+offset_law (pos (suc n)) = iff (leb (suc n) 2147483647) (leb (suc n) 2147483647 && true) (λ t. both t refl) (λ t. both_left (leb (suc n) 2147483647) true t)
+offset_law (negsuc n) =
     iff (leb n 2147483647 && true) (leb (suc n) 2147483648)
     (λ t. le-leb (suc n) 2147483648 (omega (arith, leb-true n 2147483647 (both_left (leb n 2147483647) true t))))
     (λ t. both (le-leb n 2147483647 (omega (arith, leb-true (suc n) 2147483648 t))) refl)
-
-module _ (t : List ℤ) (i : ℕ) {u d : ℕ} (eu : u ≡ natural (field t i 2)) (ed : d ≡ natural (neg_ℤ (field t i 2))) where
-  pub offset_high : 2147483647 < u → false ≡ offset_fits (field t i 2)
-  offset_high h = sym (up_out (field t i 2) (rw eu at h))
-
-  pub offset_is : u ≤ 2147483647 → leb d 2147483648 ≡ offset_fits (field t i 2)
-  offset_is h = sym (down_in (field t i 2) (rw eu at h) ∙ rw (← ed))
-
-pub ruleset offsets = (offset_high, offset_is, rules)

@@ -62,15 +62,5 @@ pub fn fall_at(table: &[i64], i: usize, which: usize) -> u64
 pub fn is_same(a: &[i64], b: &[i64]) -> bool
     ensures { result ≡ same_table a.now b.now }
 {
-    if a.len() != b.len() {
-        return false;
-    }
-    let mut i = 0;
-    while i < a.len() {
-        if a[i] != b[i] {
-            return false;
-        }
-        i += 1;
-    }
-    true
+    a == b
 }

@@ -1,7 +1,7 @@
 -- Extents within the limits, and the code that tests them.
-use mathlib.Core.Path.{◌≡◌, sym, ap, ◌∙◌}
+use mathlib.Core.Path.{◌≡◌, refl, sym, ap, ◌∙◌}
 use mathlib.Core.List.{List}
-use mathlib.Core.Bool.{Bool, true, false, ◌&&◌}
+use mathlib.Core.Bool.{Bool, true, false, ◌&&◌, cond}
 use Prim.Native.Nat.{ℕ, zero, suc, ◌+◌, ◌^◌, ◌≤◌, ◌<◌, min}
 use native.Mathlib.Omega.{arith}
 use native.Mathlib.Decide.{dec_lt}
@@ -21,7 +21,7 @@ use Rattle.extent.proofs.Signed.{read, read_is}
 use Rattle.extent.proofs.Reached.{iff}
 use Rattle.extent.proofs.Holding.{wide_held, plain_held, held_join}
 use Rattle.locate_sums.specs.Sums.{limited, tells, element_extent, added_of}
-use Rattle.locate_sums.specs.declared.Tested.TheVariants.{Good, Bad}
+use Rattle.std.specs.Prelude.{Some, None}
 use Rattle.locate_rows.proofs.Numbers.{nots}
 
 pub record Limited (e : Extent) : Type 0 where
@@ -78,16 +78,6 @@ held_limited e = by (dec_lt (2 ^ 32) e.span)
 
 -- ── the code ──
 
-pub limited_not : (e : Extent) → 2 ^ 32 < e.span → false ≡ limited e
-unfolding limited
-limited_not e h = sym (rw (lt-leb _ _ h))
-
-pub limited_is : (e : Extent) → e.span ≤ 2 ^ 32 → leb e.count 1000000 ≡ limited e
-unfolding limited
-limited_is e h = sym (rw (le-leb _ _ h))
-
-pub ruleset limiting = (limited_not, limited_is, rules)
-
 -- the element of a record
 module _ (t : List ℤ) (i : ℕ) (m : Extent) {r own body : Extent} {z : ℤ} {k : ℕ}
     (e : r ≡ held (join own body)) (f : own ≡ held (by_offset (read z))) (g : SFits w64 z) (ez : z ≡ field t i 2) (ek : k ≡ natural (field t i 0)) where
@@ -103,9 +93,9 @@ pub ruleset elements = (group_extent, variable_extent, rules)
 
 -- what it tells
 module _ (t : List ℤ) (i : ℕ) (e : Extent) {a : Bool} (fa : a ≡ same_number (field t i 6) (pos e.count)) where
-  pub tells_not : a ≡ false → false ≡ tells t i e
+  pub tells_not : a ≡ false → a ≡ tells t i e
   unfolding tells
-  tells_not h = sym (rw (← fa, h))
+  tells_not h = h ∙ sym (rw (← fa, h))
 
   pub tells_is : a ≡ true → {u d : ℕ} → u ≡ natural (field t i 7) → d ≡ natural (neg_ℤ (field t i 7)) → eqb (u + e.below) (d + e.ends) ≡ tells t i e
   unfolding tells
@@ -113,38 +103,26 @@ module _ (t : List ℤ) (i : ℕ) (e : Extent) {a : Bool} (fa : a ≡ same_numbe
 
 pub ruleset telling = (tells_not, tells_is, nots, rules)
 
--- an element behind what stands before it
-module _ (t : List ℤ) (i : ℕ) (m before : Extent) {own : Extent} (e : own ≡ held (element_extent t i m)) {a : Bool} (fa : a ≡ limited own) where
-  own_limited : a ≡ limited (element_extent t i m)
-  own_limited = fa ∙ rw (e, held_limited)
+-- an element behind what stands before it: as the code holds it
+pub added_law : (t : List ℤ) (i : ℕ) (m before : Extent) {own whole : Extent} → own ≡ held (element_extent t i m) → whole ≡ held (join before own)
+    → added_of t i m before ≡ cond (limited own && (tells t i own && limited whole)) (Some whole) None
+unfolding added_of
+added_law t i m before {own} {whole} e g = by (limited own) refl
+  where
+    own_limited : limited own ≡ limited (element_extent t i m)
+    own_limited = rw (e, held_limited)
 
-  pub added_wide : a ≡ false → Bad ≡ added_of t i m before
-  unfolding added_of
-  added_wide h = sym (rw (← own_limited, h))
+    by : (a : Bool) → limited own ≡ a → added_of t i m before ≡ cond (limited own && (tells t i own && limited whole)) (Some whole) None
+    by false a = rw (← own_limited, a)
+    by true a = rw (← own_limited, a, ← own_is, ← whole_limited) (last (tells t i own) (limited whole) refl)
+      where
+        own_is : own ≡ element_extent t i m
+        own_is = e ∙ held_is (element_extent t i m) (sym own_limited ∙ a)
 
-  module _ (ha : a ≡ true) {b : Bool} (fb : b ≡ tells t i own) where
-    own_is : own ≡ element_extent t i m
-    own_is = e ∙ held_is (element_extent t i m) (sym own_limited ∙ ha)
+        whole_limited : limited whole ≡ limited (join before own)
+        whole_limited = rw (g, held_limited)
 
-    own_tells : b ≡ tells t i (element_extent t i m)
-    own_tells = fb ∙ rw own_is
-
-    pub added_untold : b ≡ false → Bad ≡ added_of t i m before
-    unfolding added_of
-    added_untold h = sym (rw (← own_limited, ha, ← own_tells, h))
-
-    module _ (hb : b ≡ true) {whole : Extent} (g : whole ≡ held (join before own)) {c : Bool} (fc : c ≡ limited whole) where
-      whole_limited : c ≡ limited (join before (element_extent t i m))
-      whole_limited = fc ∙ rw (g, held_limited, own_is)
-
-      pub added_far : c ≡ false → Bad ≡ added_of t i m before
-      unfolding added_of
-      added_far h = sym (rw (← own_limited, ha, ← own_tells, hb, ← whole_limited, h))
-
-      pub added_is : c ≡ true → Good whole ≡ added_of t i m before
-      unfolding added_of
-      added_is h =
-          sym (rw (← own_limited, ha, ← own_tells, hb, ← whole_limited, h)
-          (ap Good (sym (held_is (join before (element_extent t i m)) (sym whole_limited ∙ h)) ∙ rw (← own_is, ← g))))
-
-pub ruleset adding = (added_wide, added_untold, added_far, added_is, nots, rules)
+        last : (b d : Bool) → limited whole ≡ d → cond (b && d) (Some (join before own)) None ≡ cond (b && d) (Some whole) None
+        last false d h = refl
+        last true false h = refl
+        last true true h = ap Some (sym (g ∙ held_is (join before own) (sym whole_limited ∙ h)))

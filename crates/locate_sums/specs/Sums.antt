@@ -1,12 +1,10 @@
 -- The words of the code that sums up a table's records as extents.
-use Rattle.std.specs.Prelude.{List, Bool, cond, ◌&&◌, ℕ, ◌+◌, ◌^◌, eqb, leb, ℤ, pos, neg_ℤ}
+use Rattle.std.specs.Prelude.{List, Bool, Option, Some, None, cond, ◌&&◌, ℕ, ◌+◌, ◌^◌, eqb, leb, ℤ, pos, neg_ℤ}
 use Rattle.cdi.specs.Rules.{natural}
 use Rattle.cdi.specs.Table.{same_number}
 use Rattle.cdi.specs.Plans.{field, kind_of, extra_of, replication_of}
 use Rattle.extent.specs.Reach.{by_offset, by_size, join, repeat}
 use Rattle.extent.specs.declared.Extent.{Extent}
-use Rattle.locate_sums.specs.declared.Tested.{Tested}
-use Rattle.locate_sums.specs.declared.Tested.TheVariants.{Good, Bad}
 
 -- the limits of addresses, from some start, and of variables
 unfoldable pub limited : Extent → Bool
@@ -21,8 +19,8 @@ unfoldable pub element_extent : List ℤ → ℕ → Extent → Extent
 element_extent t i m = join (by_offset (field t i 2)) (cond (eqb (kind_of t i) 2) (repeat (replication_of t i) m) (by_size (extra_of t i)))
 
 -- what stands before record i, and its element
-unfoldable pub added_of : List ℤ → ℕ → Extent → Extent → Tested
+unfoldable pub added_of : List ℤ → ℕ → Extent → Extent → Option Extent
 added_of t i m before =
     let own = element_extent t i m in
     let whole = join before own in
-    cond (limited own && (tells t i own && limited whole)) (Good whole) Bad
+    cond (limited own && (tells t i own && limited whole)) (Some whole) None

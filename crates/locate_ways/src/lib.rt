@@ -11,7 +11,7 @@ use terms::GROUP;
 // A table has at most 4,095 records, so their numbers are below this one.
 pub const RECORDS: u64 = 4096;
 
-// What `find_in` says where there is no variable.
+// What `find_in` says where there is no variable. One number in place of an `Option`, which goes through memory at each level: that was slower (docs/COSTS.md).
 pub const NOWHERE: u64 = 18446744073709551615;
 
 // A record and an address as one number.
@@ -32,6 +32,7 @@ pub fn find_in(lent: &&[i64], from: usize, end: usize, origin: u64, n: u64) -> u
     let mut i = from;
     let mut address = origin;
     let mut left = n;
+    // A `while`: a step goes past a whole subtree.
     while i < end {
         let count = natural_at(table, i, COUNT);
         if left < count {
@@ -39,14 +40,12 @@ pub fn find_in(lent: &&[i64], from: usize, end: usize, origin: u64, n: u64) -> u
             let kind = rise_at(table, i, KIND);
             if kind == GROUP {
                 let copy = choose(table, i, start, left);
-                let first = copy.start;
-                let number = copy.number;
                 let next = next_record(table, i, end);
-                return find_in(lent, i + 1, next, first, number);
+                return find_in(lent, i + 1, next, copy.start, copy.number);
             }
             return packed(start, i);
         }
-        left = left - count;
+        left -= count;
         address = moved_by(table, i, CHANGE, address);
         i = next_record(table, i, end);
     }

@@ -16,8 +16,7 @@ ghost use Rattle.planksling_out.specs.Readings.{Shown, bit_of, shown_of};
 use access_checked::Checked;
 use access_reading::Reading;
 use access_writing::Written;
-use listing::Listing;
-use locate::Located;
+use locate::{Absent, Variable};
 use plan_stages::Planned;
 use terms::{EVENTID, INT, STRING};
 
@@ -69,7 +68,7 @@ pub fn tell_checked(told: Checked, end: &mut usize, place: &mut usize) -> usize
 
 // Of locating: a variable's record, space, address, size and kind. Its refusals have no place.
 pub fn tell_located(
-    told: Located,
+    told: Result<Variable, Absent>,
     record_number: &mut usize,
     space: &mut u64,
     address: &mut u64,
@@ -84,36 +83,30 @@ pub fn tell_located(
     ensures kind_after { kind.new ≡ value_after (λ (a : Found). a.kind) (told_of told) kind.old }
 {
     match told {
-        Located::Variable {
-            record: i,
-            space: s,
-            address: a,
-            size: z,
-            kind: k,
-        } => {
-            *record_number = i;
-            *space = s;
-            *address = a;
-            *size = z;
-            *kind = k;
+        Ok(it) => {
+            *record_number = it.record;
+            *space = it.space;
+            *address = it.address;
+            *size = it.size;
+            *kind = it.kind;
             0
         }
-        Located::NotAPlan => 20,
-        Located::NoVariable => 21,
+        Err(Absent::NotAPlan) => 20,
+        Err(Absent::NoVariable) => 21,
     }
 }
 
 // Of listing: how many variables were listed. Its refusal has no place.
-pub fn tell_listed(told: Listing, count: &mut usize) -> usize
+pub fn tell_listed(told: Option<usize>, count: &mut usize) -> usize
     ensures value { result ≡ number_in (listing_of told) }
     ensures count_after { count.new ≡ value_after (λ n. n) (listing_of told) count.old }
 {
     match told {
-        Listing::Count(many) => {
+        Some(many) => {
             *count = many;
             0
         }
-        Listing::NotAPlan => 20,
+        None => 20,
     }
 }
 

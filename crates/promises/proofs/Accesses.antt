@@ -25,8 +25,10 @@ use Rattle.cdi.proofs.PlanOf.{same_table_law, table_itself}
 use Rattle.cdi.proofs.Back.{Passed, passed}
 use Rattle.cdi.proofs.Promises.{nth_is, nth_none, count_is}
 use Rattle.locate.specs.Answers.{told_of}
-use Rattle.locate.specs.declared.Located.{Located}
-use Rattle.locate.specs.declared.Located.TheVariants.{NotAPlan, NoVariable}
+use Rattle.std.specs.Prelude.{Result, Err}
+use Rattle.locate.specs.declared.Variable.{Variable}
+use Rattle.locate.specs.declared.Absent.{Absent}
+use Rattle.locate.specs.declared.Absent.TheVariants.{NotAPlan, NoVariable}
 use Rattle.locate.proofs.Once.{one_case}
 use Rattle.access_kinds.specs.Told.{window_of}
 use Rattle.access_lookup.specs.Told.{end_in, known_of}
@@ -283,25 +285,25 @@ module _ (b : List ℕ) (t : List ℤ) (n space first : ℕ) (bytes : List ℕ) 
 
 -- ── locating in any table ──
 
-module _ (t : List ℤ) (n : ℕ) (q : Located) (is : told_of q ≡ locating t n) where
-  not_a_plan : is_plan t ≡ false → q ≡ NotAPlan
+module _ (t : List ℤ) (n : ℕ) (q : Result Variable Absent) (is : told_of q ≡ locating t n) where
+  not_a_plan : is_plan t ≡ false → q ≡ Err NotAPlan
   unfolding told_of locating
-  not_a_plan h = let z : locating t n ≡ refused (fault 20 0) = rw h in one_case q NotAPlan (is ∙ z)
+  not_a_plan h = let z : locating t n ≡ refused (fault 20 0) = rw h in one_case q (Err NotAPlan) (is ∙ z)
 
   module _ (h : is_plan t ≡ true) where
     by_walk : locating t n ≡ variable_of (segments_of t) n
     unfolding locating
     by_walk = rw h
 
-    beyond_count : length (walk (segments_of t)) ≤ n → q ≡ NoVariable
+    beyond_count : length (walk (segments_of t)) ≤ n → q ≡ Err NoVariable
     unfolding told_of
-    beyond_count l = one_case q NoVariable (is ∙ by_walk ∙ nth_none (segments_of t) n (omega (arith, count_is (segments_of t))))
+    beyond_count l = one_case q (Err NoVariable) (is ∙ by_walk ∙ nth_none (segments_of t) n (omega (arith, count_is (segments_of t))))
 
     below_count : n < length (walk (segments_of t)) → (o : Found) → q ≡ variable_at (get_or (walk (segments_of t)) n o)
     unfolding told_of
     below_count l o = one_case q _ (is ∙ by_walk ∙ nth_is (segments_of t) n o (omega (arith, count_is (segments_of t))))
 
-  pub locates : (is_plan t ≡ false → q ≡ NotAPlan)
-      × (is_plan t ≡ true → length (walk (segments_of t)) ≤ n → q ≡ NoVariable)
+  pub locates : (is_plan t ≡ false → q ≡ Err NotAPlan)
+      × (is_plan t ≡ true → length (walk (segments_of t)) ≤ n → q ≡ Err NoVariable)
       × (is_plan t ≡ true → n < length (walk (segments_of t)) → (o : Found) → q ≡ variable_at (get_or (walk (segments_of t)) n o))
   locates = (not_a_plan, beyond_count, below_count)

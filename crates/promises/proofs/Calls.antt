@@ -33,8 +33,10 @@ use Rattle.plan_stages.specs.declared.Planned.TheVariants.{Accepted}
 use Rattle.plan_stages.specs.Outlines.{answer_of}
 use Rattle.plan.proofs.Promises.{told, Faultless, accepted_faultless, records_in_front}
 use Rattle.locate.specs.Answers.{told_of}
-use Rattle.locate.specs.declared.Located.{Located}
-use Rattle.locate.specs.declared.Located.TheVariants.{NoVariable}
+use Rattle.std.specs.Prelude.{Result, Err}
+use Rattle.locate.specs.declared.Variable.{Variable}
+use Rattle.locate.specs.declared.Absent.{Absent}
+use Rattle.locate.specs.declared.Absent.TheVariants.{NoVariable}
 use Rattle.locate.proofs.Once.{one_case}
 use Rattle.listing_fill.specs.Batch.{numbers_of, batch, listed}
 use Rattle.maps.specs.Matches.{wanted_of}
@@ -167,16 +169,16 @@ module _ (b : List ℕ) (t : List ℤ) {r : Planned} (answer : answer_of r ≡ p
     same : (k : ℕ) → locating plan k ≡ variable_of (told c) k
     same k = ap (λ (x : List ℤ). locating x k) plan_is ∙ table_locates b d described_is k
 
-    module _ (k : ℕ) (q : Located) (is : told_of q ≡ locating plan k) where
+    module _ (k : ℕ) (q : Result Variable Absent) (is : told_of q ≡ locating plan k) where
       located_is : k < v → (o : Found) → q ≡ variable_at (get_or (walk (told c)) k o)
       unfolding told_of
       located_is h o = one_case q _ (is ∙ same k ∙ nth_is (told c) k o (omega (arith, variables_are)))
 
-      not_located_is : v ≤ k → q ≡ NoVariable
+      not_located_is : v ≤ k → q ≡ Err NoVariable
       unfolding told_of
-      not_located_is h = one_case q NoVariable (is ∙ same k ∙ nth_none (told c) k (omega (arith, variables_are)))
+      not_located_is h = one_case q (Err NoVariable) (is ∙ same k ∙ nth_none (told c) k (omega (arith, variables_are)))
 
-      pub located : (k < v → (o : Found) → q ≡ variable_at (get_or (walk (told c)) k o)) × (v ≤ k → q ≡ NoVariable)
+      pub located : (k < v → (o : Found) → q ≡ variable_at (get_or (walk (told c)) k o)) × (v ≤ k → q ≡ Err NoVariable)
       located = (located_is, not_located_is)
 
     -- ── listing ──

@@ -10,11 +10,12 @@ use Prim.Native.Nat.{ℕ, ◌+◌, ◌*◌, ◌-◌, ◌/◌, ◌≤◌, ◌<◌
 use lib.IntN.{ℤ}
 use lib.ListN.{length, take, drop, get_or}
 use Rattle.promises.proofs.Terms.{Fault, fault, before, least, accepted, refused, content, Found, walk, records_of, table_of, is_plan, segments_of, locating, leaving, described, planned, table_after}
-use Rattle.promises.proofs.Terms.{Value, Setting, setting_of, first_cause, write_causes, read_from, stored, written, window_after, read, NoZero, Passed, SixtyFour, answer_of, Planned, told, Told, told_of, Located}
+use Rattle.promises.proofs.Terms.{Value, Setting, setting_of, first_cause, write_causes, read_from, stored, written, window_after, read, NoZero, Passed, SixtyFour, answer_of, Planned, told, Told, told_of, Result, Variable, Absent}
 use Rattle.promises.proofs.Terms.{batch, listed, wanted_of, Wanted, window_of, written_of, Written, reading_of, ReadAt, Reading, start_for}
 use Rattle.promises.proofs.Terms.{MarkupNumber, RuleNumber, TextNumber, Among, of_markup, of_elements, Counted, Cause, AccessCause, variable_at, numbers_at, echo}
 use Rattle.plan_stages.specs.declared.Planned.TheVariants.{Accepted, Refused}
-use Rattle.locate.specs.declared.Located.TheVariants.{NotAPlan, NoVariable}
+use Rattle.std.specs.Prelude.{Err}
+use Rattle.locate.specs.declared.Absent.TheVariants.{NotAPlan, NoVariable}
 use Rattle.access_writing.specs.declared.Written.TheVariants as write
 use Rattle.access_reading.specs.declared.Reading.TheVariants as reading
 use Rattle.plan.proofs.Promises as planning
@@ -56,9 +57,9 @@ pub least_is_first : (fs : List Fault) (f : Fault) → least fs ≡ some f → A
 least_is_first fs f e = (steps.least_among fs f e, λ g a. steps.least_before fs f g e a)
 
 -- `locate` on any table: 20 where it is no plan, 21 from the count of its walk on, and below that the walk's entry.
-pub locate_answers : (t : List ℤ) (n : ℕ) (q : Located) → told_of q ≡ locating t n
-    → (is_plan t ≡ false → q ≡ NotAPlan)
-    × (is_plan t ≡ true → length (walk (segments_of t)) ≤ n → q ≡ NoVariable)
+pub locate_answers : (t : List ℤ) (n : ℕ) (q : Result Variable Absent) → told_of q ≡ locating t n
+    → (is_plan t ≡ false → q ≡ Err NotAPlan)
+    × (is_plan t ≡ true → length (walk (segments_of t)) ≤ n → q ≡ Err NoVariable)
     × (is_plan t ≡ true → n < length (walk (segments_of t)) → (o : Found) → q ≡ variable_at (get_or (walk (segments_of t)) n o))
 locate_answers = accesses.locates
 
@@ -151,7 +152,7 @@ module _ (b : List ℕ) (t : List ℤ) {r : Planned} {u : List ℤ} (answer : an
   table_made = calls.made b t answer e c ends after
 
   -- `locate` on these numbers alone: below the count it is entry k of the walk, from the count on there is none.
-  pub plan_locates : (k : ℕ) (q : Located) → told_of q ≡ locating plan k → (k < v → (o : Found) → q ≡ variable_at (get_or (walk (told c)) k o)) × (v ≤ k → q ≡ NoVariable)
+  pub plan_locates : (k : ℕ) (q : Result Variable Absent) → told_of q ≡ locating plan k → (k < v → (o : Found) → q ≡ variable_at (get_or (walk (told c)) k o)) × (v ≤ k → q ≡ Err NoVariable)
   plan_locates = calls.located b t answer e c ends after
 
   -- `list` on these numbers alone, from variable k on into any slice o: as many as have room or remain, each its entry of the walk, and the rest as it was.

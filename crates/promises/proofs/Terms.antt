@@ -16,7 +16,7 @@ use Rattle.cdi.specs.Tree.{tree}
 use Rattle.cdi.specs.Rules.{element_faults}
 use Rattle.cdi.specs.Walk.{total}
 use Rattle.cdi.specs.Planning.{Description, describe, cut}
-use Rattle.locate.specs.declared.Located.TheVariants.{Variable}
+use Rattle.std.specs.Prelude.{Ok}
 use Rattle.maps.specs.declared.Wanted.TheVariants.{Number, Event, Text}
 use Rattle.access_reading.specs.declared.Reading.TheVariants as answers
 pub use Rattle.cdi.specs.Faults.{Fault, fault, before, least, accepted, refused}
@@ -32,7 +32,9 @@ pub use Rattle.plan_stages.specs.Outlines.{answer_of}
 pub use Rattle.plan_stages.specs.declared.Planned.{Planned}
 pub use Rattle.plan.proofs.Promises.{told, Told}
 pub use Rattle.locate.specs.Answers.{told_of}
-pub use Rattle.locate.specs.declared.Located.{Located}
+pub use Rattle.std.specs.Prelude.{Result}
+pub use Rattle.locate.specs.declared.Variable.{Variable}
+pub use Rattle.locate.specs.declared.Absent.{Absent}
 pub use Rattle.listing_fill.specs.Batch.{batch, listed}
 pub use Rattle.maps.specs.Matches.{wanted_of}
 pub use Rattle.maps.specs.declared.Wanted.{Wanted}
@@ -126,8 +128,8 @@ pub data AccessCause (b : List ℕ) (t : List ℤ) (n : ℕ) (own : Setting → 
 -- ── "record, space, address, size and kind" ──
 
 -- the locator's answer for a variable
-abbrev pub variable_at : Found → Located
-variable_at f = Variable f.number f.space f.address f.size f.kind
+abbrev pub variable_at : Found → Result Variable Absent
+variable_at f = Ok (record { «record» = f.number; space = f.space; address = f.address; size = f.size; kind = f.kind })
 
 -- its numbers in a slice
 abbrev pub numbers_at : Found → List ℕ

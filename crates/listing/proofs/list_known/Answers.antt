@@ -1,5 +1,4 @@
 use borrow.Author.Rules.{rules}
-use Prim.Native.Nat.{◌-◌}
 use Rattle.listing.proofs.Listed.{list_loop, list_needs, list_copying}
 use Rattle.listing.proofs.list_known.Goals as goal
 

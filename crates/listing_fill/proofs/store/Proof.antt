@@ -4,8 +4,6 @@ use Rattle.listing_fill.proofs.Batches.{store_is}
 use borrow.Author.Rules.{rules}
 use Rattle.listing_fill.proofs.store.Statement.{statement}
 use Rattle.listing_fill.proofs.store.Tie as tie
-use Rattle.listing_fill.proofs.store.Reads as reads
-use Rattle.listing_fill.proofs.store.Lts as lts
 
 pub store_spec : {M : Type 1} → statement M
 store_spec =

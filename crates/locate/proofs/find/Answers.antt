@@ -1,5 +1,4 @@
 use borrow.Author.Rules.{rules}
-use Prim.Native.Nat.{◌-◌}
 use Rattle.locate.proofs.Segments.{passing, into_segment, segment_site}
 use Rattle.locate.proofs.find.Goals as goal
 

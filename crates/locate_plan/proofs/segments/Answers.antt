@@ -1,4 +1,3 @@
-use Prim.Native.Nat.{◌-◌}
 use Rattle.locate_plan.proofs.Tops.{counting, entering_top}
 use Rattle.locate_plan.proofs.segments.Goals as goal
 
@@ -25,3 +24,6 @@ loop-i-preserved c = search counting
 
 pub returns : goal.returns
 returns c = search counting
+
+pub next_record-next-requires : goal.next_record-next-requires
+next_record-next-requires c = search entering_top
