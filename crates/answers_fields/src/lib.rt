@@ -1,122 +1,83 @@
 // The fields of a frame that hands in a text, its table and a window, and what it asks.
 #![tactic(auto)]
 
-ghost use Rattle.std.specs.Prelude.{◌≤◌, ◌≡◌, length};
+ghost use Rattle.std.specs.Prelude.{◌≤◌, ◌≡◌, IfSome, length};
 
-use frames::{Byte, Field, read_byte, read_length, read_number, read_numbers, read_part};
+use frames::{read_byte, read_length, read_number, read_numbers, read_part};
 
-// How much of the text's and of the table's buffer is filled; and whether both were read.
+// How much of the text's and of the table's buffer is filled.
 #[derive(Clone, Copy)]
 pub struct Described {
-    pub whole: bool,
     pub text: usize,
     pub numbers: usize,
 }
 
 // Reads text and table, the second through a buffer of bytes.
-pub fn text_and_table(text: &mut [u8], table: &mut [i64], block: &mut [u8]) -> Described
-    ensures { (result.text ≤ length text.old) × (result.numbers ≤ length table.old) }
+pub fn text_and_table(text: &mut [u8], table: &mut [i64], block: &mut [u8]) -> Option<Described>
+    ensures { IfSome result (λ d. (d.text ≤ length text.old) × (d.numbers ≤ length table.old)) }
 {
-    let bytes = read_part(text);
-    if !bytes.whole {
-        return Described {
-            whole: false,
-            text: 0,
-            numbers: 0,
-        };
-    }
-    let numbers = read_numbers(table, block);
-    Described {
-        whole: numbers.whole,
-        text: bytes.size,
-        numbers: numbers.size,
-    }
+    let size = read_part(text)?;
+    let numbers = read_numbers(table, block)?;
+    Some(Described {
+        text: size,
+        numbers,
+    })
 }
 
-// A window's space and first address, and how much of its buffer is filled; and whether all of it was read.
+// A window's space and first address, and how much of its buffer is filled.
 #[derive(Clone, Copy)]
 pub struct Held {
-    pub whole: bool,
     pub space: u64,
     pub first: u64,
     pub window: usize,
 }
 
-fn nothing_held() -> Held
-    ensures { result.window ≡ 0 }
-{
-    Held {
-        whole: false,
-        space: 0,
-        first: 0,
-        window: 0,
-    }
-}
-
 // Reads a window.
-pub fn window_of(window: &mut [u8]) -> Held
-    ensures { result.window ≤ length window.old }
+pub fn window_of(window: &mut [u8]) -> Option<Held>
+    ensures { IfSome result (λ h. h.window ≤ length window.old) }
 {
-    let Field::Is(space) = read_number() else {
-        return nothing_held();
-    };
-    let Field::Is(first) = read_number() else {
-        return nothing_held();
-    };
-    let part = read_part(window);
-    Held {
-        whole: part.whole,
+    let space = read_number()?;
+    let first = read_number()?;
+    let size = read_part(window)?;
+    Some(Held {
         space,
         first,
-        window: part.size,
-    }
+        window: size,
+    })
 }
 
-// How much of the journal's buffer is filled, and the session value; and whether both were read.
+// How much of the journal's buffer is filled, and the session value.
 #[derive(Clone, Copy)]
 pub struct Kept {
-    pub whole: bool,
     pub journal: usize,
     pub session: u64,
 }
 
 // Reads a journal and a session value.
-pub fn journal_of(journal: &mut [u8]) -> Kept
-    ensures { result.journal ≤ length journal.old }
+pub fn journal_of(journal: &mut [u8]) -> Option<Kept>
+    ensures { IfSome result (λ k. k.journal ≤ length journal.old) }
 {
-    let part = read_part(journal);
-    let Field::Is(session) = read_number() else {
-        return Kept {
-            whole: false,
-            journal: 0,
-            session: 0,
-        };
-    };
-    Kept {
-        whole: part.whole,
-        journal: part.size,
+    let size = read_part(journal)?;
+    let session = read_number()?;
+    Some(Kept {
+        journal: size,
         session,
-    }
+    })
 }
 
-// How many operations there are, or 1,001 where there are more than 1,000 or the count is cut off.
-pub fn operation_count() -> usize
-    ensures { result ≤ 1001 }
+// How many operations there are: 1,000 at most.
+#[tactic(auto, using(frames::proofs::Kept::kept))]
+pub fn operation_count() -> Option<usize>
+    ensures { IfSome result (λ n. n ≤ 1000) }
 {
-    let Field::Is(n) = read_length(1000) else {
-        return 1001;
-    };
-    if 1000 < n {
-        return 1001;
-    }
-    n as usize
+    let n = read_length(1000)?;
+    Some(n as usize)
 }
 
 // What is asked of a variable, by a frame or an operation of this kind: to write an int of this sign and magnitude, an event ID, which is the magnitude,
-// or a text, which fills so much of its buffer. And whether it was read.
+// or a text, which fills so much of its buffer.
 #[derive(Clone, Copy)]
 pub struct Asked {
-    pub whole: bool,
     pub kind: u8,
     pub n: u64,
     pub negative: bool,
@@ -124,24 +85,10 @@ pub struct Asked {
     pub size: usize,
 }
 
-fn cut_off() -> Asked
-    ensures { result.size ≡ 0 }
-{
-    Asked {
-        whole: false,
-        kind: 0,
-        n: 0,
-        negative: false,
-        magnitude: 0,
-        size: 0,
-    }
-}
-
 fn number(kind: u8, n: u64, negative: bool, magnitude: u64) -> Asked
     ensures { result.size ≡ 0 }
 {
     Asked {
-        whole: true,
         kind,
         n,
         negative,
@@ -150,73 +97,58 @@ fn number(kind: u8, n: u64, negative: bool, magnitude: u64) -> Asked
     }
 }
 
-fn read_event(n: u64) -> Asked
-    ensures { result.size ≡ 0 }
+fn read_event(n: u64) -> Option<Asked>
+    ensures { IfSome result (λ a. a.size ≡ 0) }
 {
-    let Field::Is(id) = read_number() else {
-        return cut_off();
-    };
-    number(b'E', n, false, id)
+    let id = read_number()?;
+    Some(number(b'E', n, false, id))
 }
 
 // A sign, 0 or 1, and a magnitude.
-fn read_int(n: u64) -> Asked
-    ensures { result.size ≡ 0 }
+fn read_int(n: u64) -> Option<Asked>
+    ensures { IfSome result (λ a. a.size ≡ 0) }
 {
-    let Byte::Is(sign) = read_byte() else {
-        return cut_off();
-    };
+    let sign = read_byte()?;
     if 1 < sign {
-        return cut_off();
+        return None;
     }
-    let Field::Is(magnitude) = read_number() else {
-        return cut_off();
-    };
-    number(b'I', n, sign == 1, magnitude)
+    let magnitude = read_number()?;
+    Some(number(b'I', n, sign == 1, magnitude))
 }
 
-fn read_text(n: u64, buffer: &mut [u8]) -> Asked
-    ensures { result.size ≤ length buffer.old }
+fn read_text(n: u64, buffer: &mut [u8]) -> Option<Asked>
+    ensures { IfSome result (λ a. a.size ≤ length buffer.old) }
 {
-    let part = read_part(buffer);
-    Asked {
-        whole: part.whole,
+    let size = read_part(buffer)?;
+    Some(Asked {
         kind: b'S',
         n,
         negative: false,
         magnitude: 0,
-        size: part.size,
-    }
+        size,
+    })
 }
 
 // Reads what is to be written to variable `n`.
-pub fn read_value(kind: u8, n: u64, buffer: &mut [u8]) -> Asked
-    ensures { result.size ≤ length buffer.old }
+pub fn read_value(kind: u8, n: u64, buffer: &mut [u8]) -> Option<Asked>
+    ensures { IfSome result (λ a. a.size ≤ length buffer.old) }
 {
-    if kind == b'I' {
-        return read_int(n);
+    match kind {
+        b'I' => read_int(n),
+        b'E' => read_event(n),
+        b'S' => read_text(n, buffer),
+        _ => None,
     }
-    if kind == b'E' {
-        return read_event(n);
-    }
-    if kind == b'S' {
-        return read_text(n, buffer);
-    }
-    cut_off()
 }
 
 // Reads an operation: `U` is alone, the others name a variable and have a value.
-pub fn read_operation(buffer: &mut [u8]) -> Asked
-    ensures { result.size ≤ length buffer.old }
+pub fn read_operation(buffer: &mut [u8]) -> Option<Asked>
+    ensures { IfSome result (λ a. a.size ≤ length buffer.old) }
 {
-    let Byte::Is(kind) = read_byte() else {
-        return cut_off();
-    };
+    let kind = read_byte()?;
     if kind == b'U' {
-        return number(kind, 0, false, 0);
+        return Some(number(kind, 0, false, 0));
     }
-    let Field::Is(n) = read_number() else {
-        return cut_off();
-    };
+    let n = read_number()?;
     read_value(kind, n, buffer)
 }

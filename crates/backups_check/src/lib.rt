@@ -11,7 +11,7 @@ use backups_parts::pair_in;
 fn turned_word(low: u8, high: u8) -> u32
     ensures { (result ≡ low + high * 256) × (result < 65536) }
 {
-    low as u32 + high as u32 * 256
+    u32::from(low) + u32::from(high) * 256
 }
 
 // The check of a block's first 510 bytes. Words are summed with their lowest byte first, which is how the processor has them: 256 times such a word
@@ -21,12 +21,11 @@ pub fn check_of(front: &[u8]) -> u64
     ensures { result ≡ check_of front.now }
 {
     let mut sum: u32 = 0;
-    let mut i = 0;
-    while i < 510 {
+    for k in 0..255 {
+        let i = 2 * k;
         sum += turned_word(front[i], front[i + 1]);
-        i += 2;
     }
-    (sum % 65535 * 256 % 65535) as u64
+    u64::from(sum % 65535 * 256 % 65535)
 }
 
 // Does the block's check fit?
@@ -34,7 +33,6 @@ pub fn is_checked(b: &[u8]) -> bool
     requires { length b.now ≡ 512 }
     ensures { result ≡ is_checked b.now }
 {
-    let sum = check_of(&b[0..510]);
-    let said = pair_in(&b[510..512]);
-    said == sum
+    let (front, check) = b.split_at(510);
+    pair_in(check) == check_of(front)
 }

@@ -1,35 +1,22 @@
--- The tests of a block, as the code makes them.
-use mathlib.Core.Path.{◌≡◌, refl, sym, ◌∙◌}
-use mathlib.Core.List.{List}
-use mathlib.Core.Bool.{true, false}
-use Prim.Native.Nat.{ℕ, zero, suc, ◌+◌, ◌<◌, ◌≤◌}
-use native.Mathlib.Omega.{arith}
-use borrow.Author.Rules.{rules}
-use borrow.Author.Tests.{le-leb, lt-leb, eq-eqb, ne_eqb}
+-- The test of a block's length, as the code makes it.
+use Rattle.std.proofs.Common.{◌≡◌, refl, Bool, true, false, ◌&&◌, ℕ, zero, suc, ◌≤◌, ◌↔◌, IsTrue, arith}
+use borrow.Author.Tests.{le-leb, leb-true}
 use lib.Dec.{eqb, leb}
-use lib.ListN.{length, take, drop, get_or, drop_of_length-le, length-drop}
-use lib.Seq.{take_all}
-use Rattle.scan.proofs.Along.{drop_next}
-use Rattle.cdi.specs.Lists.{all, between}
-use Rattle.cdi.specs.Values.{value_of}
-use Rattle.blocks.specs.Blocks.{check_of, front, check}
-use Rattle.blocks.specs.Backups.{last_flag, is_length_good, is_checked}
+use Rattle.cdi.specs.Lists.{between}
+use Rattle.blocks.specs.Backups.{is_length_good}
 
--- ── the length ──
-
-pub last_long : (behind n : ℕ) → behind ≡ 0 → 1 ≤ n → leb n 502 ≡ is_length_good behind n
+pub last_long : (behind n : ℕ) (r : Bool) → behind ≡ 0 → (IsTrue r ↔ ((1 ≤ n) × (n ≤ 502))) → r ≡ is_length_good behind n
 unfolding is_length_good between
-last_long zero n e h = rw (le-leb 1 n h)
-last_long (suc m) n e h = absurd (omega arith)
-
-pub last_empty : (behind n : ℕ) → behind ≡ 0 → n < 1 → leb 1 n ≡ is_length_good behind n
-unfolding is_length_good between
-last_empty zero n e h = rw (lt-leb 1 n h)
-last_empty (suc m) n e h = absurd (omega arith)
+last_long zero n true e h = let b = h.0 refl in rw (le-leb 1 n b.0, le-leb n 502 b.1)
+last_long zero n false e h = by (leb 1 n) (leb n 502) refl refl
+  where
+    by : (x y : Bool) → leb 1 n ≡ x → leb n 502 ≡ y → false ≡ (x && y)
+    by true true p q = h.1 (leb-true 1 n p, leb-true n 502 q)
+    by true false p q = refl
+    by false y p q = refl
+last_long (suc m) n r e h = absurd (omega arith)
 
 pub others_full : (behind n : ℕ) → (behind ≡ 0 → ⊥) → eqb n 502 ≡ is_length_good behind n
 unfolding is_length_good
 others_full zero n e = absurd (e refl)
 others_full (suc m) n e = refl
-
-pub ruleset deciding = (last_long, last_empty, others_full, rules)

@@ -1,5 +1,5 @@
 -- The judge of a block, and of one block behind the other.
-use mathlib.Core.Path.{◌≡◌, refl, sym, ap, ◌∙◌}
+use mathlib.Core.Path.{◌≡◌, sym, ap, ◌∙◌}
 use mathlib.Core.List.{List}
 use mathlib.Core.Bool.{Bool, true, false, ◌&&◌}
 use Prim.Native.Nat.{ℕ, zero, suc, ◌+◌, ◌-◌, ◌*◌, ◌<◌, ◌≤◌}
@@ -11,8 +11,9 @@ use lib.ListN.{length, take, drop, get_or}
 use lib.Seq.{drop-drop}
 use Rattle.cdi.specs.Lists.{◌or_else◌, all, between}
 use Rattle.cdi.specs.Values.{value_of}
-use Rattle.backups_judge.specs.declared.Bad.{Bad}
-use Rattle.backups_judge.specs.declared.Bad.TheVariants.{Nothing, At}
+use Rattle.std.specs.Prelude.{Result, Ok, Err}
+use Rattle.refusals.specs.Refusals.{refusal}
+use Rattle.refusals.specs.declared.Refusal.{Refusal}
 use Rattle.blocks.specs.Blocks.{number, used, space, flag, area, padding}
 use Rattle.blocks.specs.Backups.{last_flag, is_length_good, is_checked, is_good, cause_of, judging, first_bad}
 use Rattle.blocks_laws.proofs.Parts.{drop_take}
@@ -75,16 +76,16 @@ pub ruleset goods = (wrong_number, wrong_space, much_too_long, wrong_length, onl
 -- ── 43, then 44 ──
 
 module _ (b : List ℕ) (k behind sp : ℕ) (r : Bool) (is_checked_law : r ≡ is_checked b) where
-  pub unchecked_told : r ≡ false → bad_of (At 43 k) ≡ cause_of k behind sp b
+  pub unchecked_told : r ≡ false → bad_of (Err (refusal 43 k)) ≡ cause_of k behind sp b
   unfolding bad_of cause_of
   unchecked_told h = rw (← is_checked_law, h)
 
   module _ (h : r ≡ true) (q : Bool) (is_good_law : q ≡ is_good k behind sp b) where
-    pub bad_told : q ≡ false → bad_of (At 44 k) ≡ cause_of k behind sp b
+    pub bad_told : q ≡ false → bad_of (Err (refusal 44 k)) ≡ cause_of k behind sp b
     unfolding bad_of cause_of
     bad_told g = rw (← is_checked_law, h, ← is_good_law, g)
 
-    pub good_told : q ≡ true → bad_of Nothing ≡ cause_of k behind sp b
+    pub good_told : q ≡ true → bad_of (Ok tt) ≡ cause_of k behind sp b
     unfolding bad_of cause_of
     good_told g = rw (← is_checked_law, h, ← is_good_law, g)
 
@@ -93,11 +94,11 @@ pub ruleset causes = (unchecked_told, bad_told, good_told, rules)
 -- ── any bytes ──
 
 module _ (b : List ℕ) (k behind sp : ℕ) where
-  pub no_block : (length b ≡ 512 → ⊥) → judged_of (At 42 0) ≡ judging k behind sp b
+  pub no_block : (length b ≡ 512 → ⊥) → judged_of (Err (refusal 42 0)) ≡ judging k behind sp b
   unfolding judged_of bad_of judging
   no_block h = rw (ne_eqb (length b) 512 h)
 
-  pub by_cause : (r : Bad) → length b ≡ 512 → bad_of r ≡ cause_of k behind sp b → judged_of r ≡ judging k behind sp b
+  pub by_cause : (r : Result Unit Refusal) → length b ≡ 512 → bad_of r ≡ cause_of k behind sp b → judged_of r ≡ judging k behind sp b
   unfolding judged_of judging
   by_cause r h e = rw (eq-eqb (length b) 512 h, e)
 
@@ -115,7 +116,7 @@ pub none_passed : (b : List ℕ) (n sp : ℕ) → length b ≡ 512 * n → Passi
 none_passed b n sp h = record { size = h; high = omega arith; left = let e : n ≡ n - 0 = omega arith in ap (λ m. first_bad 0 m sp b) e }
 
 module _ {b : List ℕ} {n sp k : ℕ} (v : Passing b n sp k) where
-  pub all_passed : n ≤ k → bad_of Nothing ≡ first_bad 0 n sp b
+  pub all_passed : n ≤ k → bad_of (Ok tt) ≡ first_bad 0 n sp b
   unfolding bad_of first_bad
   all_passed h = let e : n - k ≡ 0 = omega arith in sym (v.left ∙ rw e)
 
@@ -128,12 +129,12 @@ module _ {b : List ℕ} {n sp k : ℕ} (v : Passing b n sp k) where
         let g : 512 * (k + 1) ≡ 512 * k + 512 = omega arith in
         v.left ∙ ap (λ m. first_bad k m sp (drop (512 * k) b)) e ∙ rw (f, g, ← drop-drop 512 (512 * k) b)
 
-    module _ (r : Bad) (e : bad_of r ≡ cause_of k (n - k - 1) sp (take (512 * k + 512 - 512 * k) (drop (512 * k) b))) where
-      pub bad_found : (m p : ℕ) → r ≡ At m p → bad_of (At m p) ≡ first_bad 0 n sp b
+    module _ (r : Result Unit Refusal) (e : bad_of r ≡ cause_of k (n - k - 1) sp (take (512 * k + 512 - 512 * k) (drop (512 * k) b))) where
+      pub bad_found : (f : Refusal) → r ≡ Err f → bad_of (Err f) ≡ first_bad 0 n sp b
       unfolding bad_of
-      bad_found m p f = sym (one_more ∙ rw (← e, f))
+      bad_found f g = sym (one_more ∙ rw (← e, g))
 
-      pub one_passed : r ≡ Nothing → Passing b n sp (k + 1)
+      pub one_passed : r ≡ Ok tt → Passing b n sp (k + 1)
       unfolding bad_of
       one_passed f =
           let m : n - (k + 1) ≡ n - k - 1 = omega arith in

@@ -9,54 +9,61 @@ ghost use Rattle.backups_judge.specs.Told.{judged_of};
 ghost use Rattle.backups_storing.specs.Told.{stored_of};
 ghost use Rattle.backups_reading.specs.Told.{read_of};
 
-use backups_judge::Bad;
 use backups_reading::Read;
-use backups_storing::Stored;
+use refusals::Refusal;
 
 // Of storing: the number of bytes stored.
-pub fn tell_stored(told: Stored, stored: &mut usize, place: &mut usize) -> usize
+#[tactic(auto, unfolding(outcomes::specs::Outcomes::number_in, outcomes::specs::Outcomes::place_after, outcomes::specs::Outcomes::value_after, backups_storing::specs::Told::stored_of))]
+pub fn tell_stored(told: Result<usize, Refusal>, stored: &mut usize, place: &mut usize) -> usize
     ensures value { result ≡ number_in (stored_of told) }
     ensures stored_after { stored.new ≡ value_after (λ n. n) (stored_of told) stored.old }
     ensures place_after { place.new ≡ place_after (stored_of told) place.old }
 {
     match told {
-        Stored::Size(size) => {
+        Ok(size) => {
             *stored = size;
             0
         }
-        Stored::Refused { number, place: at } => {
-            *place = at;
-            number
+        Err(refusal) => {
+            *place = refusal.place;
+            refusal.number
         }
     }
 }
 
 // Of reading: the number of the window's bytes and its space.
-pub fn tell_read(told: Read, length: &mut usize, space: &mut u64, place: &mut usize) -> usize
+#[tactic(auto, unfolding(outcomes::specs::Outcomes::number_in, outcomes::specs::Outcomes::place_after, outcomes::specs::Outcomes::value_after, backups_reading::specs::Told::read_of))]
+pub fn tell_read(
+    told: Result<Read, Refusal>,
+    length: &mut usize,
+    space: &mut u64,
+    place: &mut usize,
+) -> usize
     ensures value { result ≡ number_in (read_of told) }
     ensures length_after { length.new ≡ value_after (λ (a : Restored). a.size) (read_of told) length.old }
     ensures space_after { space.new ≡ value_after (λ (a : Restored). a.space) (read_of told) space.old }
     ensures place_after { place.new ≡ place_after (read_of told) place.old }
 {
     match told {
-        Read::Window { size, space: s } => {
-            *length = size;
-            *space = s;
+        Ok(read) => {
+            *length = read.size;
+            *space = read.space;
             0
         }
-        Read::Refused { number, place: at } => {
-            *place = at;
-            number
+        Err(refusal) => {
+            *place = refusal.place;
+            refusal.number
         }
     }
 }
 
 // Of judging one block, which has no value; its place is the position that the caller gave.
-pub fn tell_judged(told: Bad) -> usize
+#[tactic(auto, unfolding(outcomes::specs::Outcomes::number_in, backups_judge::specs::Told::bad_of, backups_judge::specs::Told::judged_of))]
+pub fn tell_judged(told: Result<(), Refusal>) -> usize
     ensures { result ≡ number_in (judged_of told) }
 {
     match told {
-        Bad::Nothing => 0,
-        Bad::At { number, place } => number,
+        Ok(()) => 0,
+        Err(refusal) => refusal.number,
     }
 }

@@ -1,33 +1,25 @@
--- Whether all bytes of a part are zero, one after the other.
-use mathlib.Core.Path.{◌≡◌, refl, sym, ◌∙◌}
-use mathlib.Core.List.{List}
-use mathlib.Core.Bool.{true, false}
-use Prim.Native.Nat.{ℕ, ◌+◌, ◌<◌, ◌≤◌}
-use borrow.Author.Rules.{rules}
-use borrow.Author.Tests.{eq-eqb, ne_eqb}
+-- Whether all bytes of a part are zero.
+use Rattle.std.proofs.Common.{◌≡◌, refl, sym, List, [], ◌∷◌, Bool, true, false, ℕ, zero, suc, ◌<◌, length, get_or, ◌↔◌, IsTrue, EachIndex, arith}
 use lib.Dec.{eqb}
-use lib.ListN.{length, drop, get_or, drop_of_length-le}
-use Rattle.scan.proofs.Along.{drop_next}
+use borrow.Author.Tests.{eqb-true, eq-eqb}
 use Rattle.cdi.specs.Lists.{all}
+use Rattle.cdi.proofs.Tests.{both_left, both_right}
 
--- all up to i are zero
-pub record Blank (s : List ℕ) (i : ℕ) : Type 0 where
-  pub left : all (eqb 0) s ≡ all (eqb 0) (drop i s)
+all_zero : (s : List ℕ) → ((k : ℕ) → k < length s → get_or s k 0 ≡ 0) → all (eqb 0) s ≡ true
+unfolding all
+all_zero [] h = refl
+all_zero (x ∷ s) h = rw (eq-eqb 0 x (sym (h 0 (omega arith)))) (all_zero s (λ k l. h (suc k) (omega arith)))
 
-pub blank_start : (s : List ℕ) → Blank s 0
-blank_start s = record { left = refl }
+zero_at : (s : List ℕ) → all (eqb 0) s ≡ true → (k : ℕ) → k < length s → get_or s k 0 ≡ 0
+unfolding all
+zero_at [] e k l = absurd (omega arith)
+zero_at (x ∷ s) e zero l = sym (eqb-true 0 x (both_left (eqb 0 x) (all (eqb 0) s) e))
+zero_at (x ∷ s) e (suc k) l = zero_at s (both_right (eqb 0 x) (all (eqb 0) s) e) k (omega arith)
 
-module _ {s : List ℕ} {i : ℕ} (v : Blank s i) where
-  pub blank_ends : length s ≤ i → true ≡ all (eqb 0) s
-  unfolding all
-  blank_ends h = sym (v.left ∙ rw (drop_of_length-le s h))
-
-  pub blank_stops : i < length s → (get_or s i 0 ≡ 0 → ⊥) → false ≡ all (eqb 0) s
-  unfolding all
-  blank_stops h n = sym (v.left ∙ rw (drop_next s i h, ne_eqb 0 (get_or s i 0) (λ e. n (sym e))))
-
-  pub blank_goes : i < length s → get_or s i 0 ≡ 0 → Blank s (i + 1)
-  unfolding all
-  blank_goes h e = record { left = v.left ∙ rw (drop_next s i h, eq-eqb 0 (get_or s i 0) (sym e)) }
-
-pub ruleset blanks = (blank_start, blank_ends, blank_stops, blank_goes, rules)
+pub blank : (s : List ℕ) (r : Bool) → (IsTrue r ↔ EachIndex s (λ k. get_or s k 0 ≡ 0)) → r ≡ all (eqb 0) s
+blank s true h = sym (all_zero s (h.0 refl))
+blank s false h = by (all (eqb 0) s) (λ e. h.1 (zero_at s e))
+  where
+    by : (b : Bool) → (b ≡ true → false ≡ true) → false ≡ b
+    by true f = f refl
+    by false f = refl

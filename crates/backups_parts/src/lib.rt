@@ -7,37 +7,12 @@ ghost use Rattle.cdi.specs.Values.{value_of as number_of};
 ghost use Rattle.blocks.specs.Blocks.{space};
 ghost use Rattle.blocks.specs.Backups.{last_flag};
 
-// Copies bytes to as many.
-pub fn copy(part: &mut [u8], bytes: &[u8])
-    requires { length part.old ≡ length bytes.now }
-    ensures { part.new ≡ bytes.now }
-{
-    let mut i = 0;
-    while i < part.len() {
-        part[i] = bytes[i];
-        i += 1;
-    }
-}
-
-// A 16-bit word, big-endian.
-fn word(high: u8, low: u8) -> u64
-    ensures { (result ≡ high * 256 + low) × (result < 65536) }
-{
-    high as u64 * 256 + low as u64
-}
-
 // The number that two bytes are.
 pub fn pair_in(part: &[u8]) -> u64
     requires { length part.now ≡ 2 }
     ensures { (result ≡ number_of part.now) × (result < 65536) }
 {
-    word(part[0], part[1])
-}
-
-fn wide(x: u8) -> u64
-    ensures { result ≡ x }
-{
-    x as u64
+    u64::from(part[0]) * 256 + u64::from(part[1])
 }
 
 // The space that a block says, or the first of several.
@@ -45,17 +20,14 @@ pub fn space_of(b: &[u8]) -> u64
     requires { 512 ≤ length b.now }
     ensures { result ≡ space b.now }
 {
-    wide(b[6])
+    u64::from(b[6])
 }
 
 // The flag of a block with so many behind it.
 pub fn last_flag(behind: usize) -> u8
     ensures { result ≡ last_flag behind }
 {
-    if behind == 0 {
-        return 1;
-    }
-    0
+    if behind == 0 { 1 } else { 0 }
 }
 
 // Where the payload that begins here ends, in a window of this size.
@@ -63,22 +35,12 @@ pub fn payload_end(from: usize, size: usize) -> usize
     requires { from ≤ size }
     ensures { (result ≡ from + min 502 (size - from)) × (from ≤ result) × (result ≤ size) × (result ≤ from + 502) }
 {
-    if size - from < 502 {
-        return size;
-    }
-    from + 502
+    from + (size - from).min(502)
 }
 
 // Are all of these zero?
 pub fn is_blank(part: &[u8]) -> bool
     ensures { result ≡ all (eqb 0) part.now }
 {
-    let mut i = 0;
-    while i < part.len() {
-        if part[i] != 0 {
-            return false;
-        }
-        i += 1;
-    }
-    true
+    part.iter().all(|x| *x == 0)
 }

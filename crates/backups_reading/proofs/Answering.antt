@@ -1,17 +1,20 @@
 -- Reading, way by way.
 use mathlib.Core.Path.{◌≡◌, refl, sym, ◌∙◌}
 use mathlib.Core.List.{List, ◌++◌}
+use mathlib.Core.Bool.{Bool, true, false, cond, ◌&&◌}
+use mathlib.Core.Logic.{◌⊎◌, inl, inr}
 use mathlib.Core.Option.{Option, none, some}
-use Prim.Native.Nat.{ℕ, ◌-◌, ◌*◌, ◌/◌, ◌%◌, ◌<◌, ◌≤◌}
+use lib.Dec.{leb}
+use Prim.Native.Nat.{ℕ, ◌*◌, ◌/◌, ◌%◌, ◌<◌, ◌≤◌}
 use native.Mathlib.Omega.{arith}
 use borrow.Author.Rules.{rules}
 use borrow.Author.Tests.{le-leb, lt-leb, eq-eqb, ne_eqb}
 use lib.ListN.{length, drop}
 use Rattle.cdi.specs.Faults.{Fault, fault, accepted, refused}
-use Rattle.backups_judge.specs.declared.Bad.{Bad}
-use Rattle.backups_judge.specs.declared.Bad.TheVariants.{Nothing, At}
+use Rattle.std.specs.Prelude.{Result, Ok, Err}
+use Rattle.refusals.specs.Refusals.{refusal, fault_of}
+use Rattle.refusals.specs.declared.Refusal.{Refusal}
 use Rattle.backups_reading.specs.declared.Read.{Read}
-use Rattle.backups_reading.specs.declared.Read.TheVariants.{Window, Refused}
 use Rattle.blocks.specs.Blocks.{space}
 use Rattle.blocks.specs.Backups.{kept, output_after, is_whole, first_bad, payloads, blocks_in, fault_in, window_in, reading, restored, room_for, restoring, after_restoring}
 use Rattle.backups_judge.specs.Told.{bad_of}
@@ -29,7 +32,7 @@ module _ (sp r : ℕ) (s out : List ℕ) (size : r ≡ length s) where
   unfolding room_for
   wide h = rw (le-leb (length s) (length out) (omega arith))
 
-  pub narrow_told : length out < r → read_of (Refused 41 0) ≡ room_for out (kept sp s)
+  pub narrow_told : length out < r → read_of (Err (refusal 41 0)) ≡ room_for out (kept sp s)
   unfolding read_of
   narrow_told h = sym (narrow h)
 
@@ -37,71 +40,65 @@ module _ (sp r : ℕ) (s out : List ℕ) (size : r ≡ length s) where
   unfolding output_after
   narrow_left h = rw (narrow h)
 
-  pub wide_told : r ≤ length out → read_of (Window r sp) ≡ room_for out (kept sp s)
+  pub wide_told : r ≤ length out → read_of (Ok (record { size = r; space = sp })) ≡ room_for out (kept sp s)
   unfolding read_of restored
   wide_told h = sym (wide h ∙ rw (← size))
 
-  pub wide_left : (y : List ℕ) → r ≤ length out → y ≡ s → y ++ drop (r - 0) out ≡ output_after (room_for out (kept sp s)) s out
+  pub wide_left : (y : List ℕ) → r ≤ length out → y ≡ s → y ++ drop r out ≡ output_after (room_for out (kept sp s)) s out
   unfolding output_after
-  wide_left y h e =
-      let z : r - 0 ≡ length s = omega arith in
-      rw (wide h, z, e)
+  wide_left y h e = rw (wide h, size, e)
 
 pub ruleset rooms = (narrow_told, narrow_left, wide_told, wide_left, rules)
 
 -- ── a backup ──
 
 module _ (b out : List ℕ) where
-  refuses : (m p : ℕ) → fault_in b ≡ some (fault m p) → restoring b out ≡ refused (fault m p)
+  refuses : (f : Fault) → fault_in b ≡ some f → restoring b out ≡ refused f
   unfolding restoring reading
-  refuses m p h = rw h
+  refuses f h = rw h
 
-  told : (m p : ℕ) → fault_in b ≡ some (fault m p) → read_of (Refused m p) ≡ restoring b out
+  told : (r : Refusal) → fault_in b ≡ some (fault_of r) → read_of (Err r) ≡ restoring b out
   unfolding read_of
-  told m p h = sym (refuses m p h)
+  told r h = sym (refuses (fault_of r) h)
 
-  left : (m p : ℕ) → fault_in b ≡ some (fault m p) → out ≡ after_restoring b out
-  left m p h = sym (restoring_refused b out (fault m p) (refuses m p h))
+  left : (r : Refusal) → fault_in b ≡ some (fault_of r) → out ≡ after_restoring b out
+  left r h = sym (restoring_refused b out (fault_of r) (refuses (fault_of r) h))
 
-  nothing : length b < 1 → fault_in b ≡ some (fault 42 0)
+  -- it has no bytes, or a part of a block
+  uneven : (length b < 1) ⊎ (length b % 512 ≡ 0 → ⊥) → fault_in b ≡ some (fault 42 0)
   unfolding fault_in is_whole
-  nothing h = rw (lt-leb 1 (length b) h)
+  uneven (inl h) = rw (lt-leb 1 (length b) h)
+  uneven (inr h) = rw (ne_eqb (length b % 512) 0 h) (by (leb 1 (length b)))
+    where
+      by : (x : Bool) → cond (x && false) (first_bad 0 (blocks_in b) (space b) b) (some (fault 42 0)) ≡ some (fault 42 0)
+      by true = refl
+      by false = refl
 
-  uneven : 1 ≤ length b → (length b % 512 ≡ 0 → ⊥) → fault_in b ≡ some (fault 42 0)
-  unfolding fault_in is_whole
-  uneven l h = rw (le-leb 1 (length b) l, ne_eqb (length b % 512) 0 h)
+  pub uneven_told : (length b < 1) ⊎ (length b % 512 ≡ 0 → ⊥) → read_of (Err (refusal 42 0)) ≡ restoring b out
+  uneven_told h = told (refusal 42 0) (uneven h)
 
-  pub nothing_told : length b < 1 → read_of (Refused 42 0) ≡ restoring b out
-  nothing_told h = told 42 0 (nothing h)
+  pub uneven_left : (length b < 1) ⊎ (length b % 512 ≡ 0 → ⊥) → out ≡ after_restoring b out
+  uneven_left h = left (refusal 42 0) (uneven h)
 
-  pub nothing_left : length b < 1 → out ≡ after_restoring b out
-  nothing_left h = left 42 0 (nothing h)
-
-  pub uneven_told : 1 ≤ length b → (length b % 512 ≡ 0 → ⊥) → read_of (Refused 42 0) ≡ restoring b out
-  uneven_told l h = told 42 0 (uneven l h)
-
-  pub uneven_left : 1 ≤ length b → (length b % 512 ≡ 0 → ⊥) → out ≡ after_restoring b out
-  uneven_left l h = left 42 0 (uneven l h)
-
-  module _ (low : 1 ≤ length b) (even : length b % 512 ≡ 0) (sp : ℕ) (its : sp ≡ space b) (r : Bad) (found : bad_of r ≡ first_bad 0 (length b / 512) sp b) where
+  module _ (low : 1 ≤ length b) (even : length b % 512 ≡ 0) (sp : ℕ) (its : sp ≡ space b) (r : Result Unit Refusal) (found : bad_of r ≡ first_bad 0 (length b / 512) sp b) where
     judged : fault_in b ≡ bad_of r
     unfolding fault_in is_whole blocks_in
     judged = rw (le-leb 1 (length b) low, eq-eqb (length b % 512) 0 even, ← its, found)
 
-    pub bad_told : (m p : ℕ) → r ≡ At m p → read_of (Refused m p) ≡ restoring b out
+    pub bad_told : (f : Refusal) → r ≡ Err f → read_of (Err f) ≡ restoring b out
     unfolding bad_of
-    bad_told m p e = told m p (judged ∙ rw e)
+    bad_told f e = told f (judged ∙ rw e)
 
-    pub bad_left : (m p : ℕ) → r ≡ At m p → out ≡ after_restoring b out
+    pub bad_left : (f : Refusal) → r ≡ Err f → out ≡ after_restoring b out
     unfolding bad_of
-    bad_left m p e = left m p (judged ∙ rw e)
+    bad_left f e = left f (judged ∙ rw e)
 
-    module _ (e : r ≡ Nothing) where
+    module _ (e : r ≡ Ok tt) where
       reads : restoring b out ≡ room_for out (kept sp (payloads (length b / 512) b))
       unfolding restoring reading bad_of window_in blocks_in
       reads = rw (judged, e, its)
 
-      pub good_told : (q : Read) → read_of q ≡ room_for out (kept sp (payloads (length b / 512) b)) → read_of q ≡ restoring b out
+      pub good_told : (q : Result Read Refusal) → read_of q ≡ room_for out (kept sp (payloads (length b / 512) b)) → read_of q ≡ restoring b out
       good_told q f = f ∙ sym reads
 
       pub good_left : (y : List ℕ) → y ≡ output_after (room_for out (kept sp (payloads (length b / 512) b))) (payloads (length b / 512) b) out → y ≡ after_restoring b out
@@ -115,8 +112,8 @@ some_blocks b l e = omega arith
 pub whole_blocks : (b : List ℕ) → length b % 512 ≡ 0 → length b ≡ 512 * (length b / 512)
 whole_blocks b e = omega arith
 
-pub none_bad : (r : Bad) (o : Option Fault) → bad_of r ≡ o → r ≡ Nothing → o ≡ none
+pub none_bad : (r : Result Unit Refusal) (o : Option Fault) → bad_of r ≡ o → r ≡ Ok tt → o ≡ none
 unfolding bad_of
 none_bad r o e f = sym e ∙ rw f
 
-pub ruleset readings = (nothing_told, nothing_left, uneven_told, uneven_left, bad_told, bad_left, good_told, good_left, some_blocks, whole_blocks, none_bad, rules)
+pub ruleset readings = (bad_told, bad_left, good_told, good_left, some_blocks, whole_blocks, none_bad, rules)

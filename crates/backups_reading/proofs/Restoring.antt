@@ -4,14 +4,13 @@ use mathlib.Core.List.{List, [], ◌∷◌, ◌++◌, append_assoc, append-nil}
 use mathlib.Core.Bool.{true}
 use mathlib.Core.Option.{none}
 use Prim.Native.Nat.{ℕ, zero, suc, ◌+◌, ◌-◌, ◌*◌, min, ◌<◌, ◌≤◌}
-use native.Mathlib.Numerals.{add-one}
 use native.Mathlib.Omega.{arith}
 use borrow.Author.Rules.{rules}
 use borrow.Author.Tests.{eqb-true}
 use borrow.Rule.Slice.PartMut.{put_mid, Post-is}
-use lib.ListN.{length, take, drop, get_or, set, length-append, length-drop, length-set}
-use lib.Seq.{take_at, take_all, take-take, take-suc, take-suc-set, drop-drop, length-take-le}
-use Rattle.cdi.specs.Values.{value_of, value_from}
+use lib.ListN.{length, take, drop, length-append, length-drop}
+use lib.Seq.{take_at, take_all, take-take, drop-drop, length-take-le}
+use Rattle.cdi.specs.Values.{value_of}
 use Rattle.blocks.specs.Blocks.{used, area, payload}
 use Rattle.blocks.specs.Backups.{is_length_good, cause_of, first_bad, payloads}
 use Rattle.backups_reading.specs.Told.{with_payload}

@@ -1,13 +1,14 @@
 -- What the answer of reading means, and what one step of it leaves.
-use Rattle.std.specs.Prelude.{List, ◌++◌, ℕ, ◌+◌, ◌-◌, ◌*◌, min, length, take, drop}
-use Rattle.cdi.specs.Faults.{fault, Answer, accepted, refused}
+use Rattle.std.specs.Prelude.{List, ◌++◌, ℕ, ◌+◌, ◌-◌, ◌*◌, min, length, take, drop, Result, Ok, Err}
+use Rattle.cdi.specs.Faults.{Answer, accepted, refused}
 use Rattle.blocks.specs.Backups.{Restored}
 use Rattle.backups_reading.specs.declared.Read.{Read}
-use Rattle.backups_reading.specs.declared.Read.TheVariants.{Window, Refused}
+use Rattle.refusals.specs.Refusals.{fault_of}
+use Rattle.refusals.specs.declared.Refusal.{Refusal}
 
-unfoldable pub read_of : Read → Answer Restored
-read_of (Window n sp) = accepted (record { size = n; space = sp })
-read_of (Refused n p) = refused (fault n p)
+unfoldable pub read_of : Result Read Refusal → Answer Restored
+read_of (Ok r) = accepted (record { size = r.size; space = r.space })
+read_of (Err r) = refused (fault_of r)
 
 -- the output with one payload in its place
 unfoldable pub with_payload : ℕ → List ℕ → List ℕ → List ℕ

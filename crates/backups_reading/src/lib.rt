@@ -6,14 +6,15 @@ ghost use Rattle.std.proofs.Math.Option.{none};
 ghost use Rattle.blocks.specs.Backups.{kept, output_after, first_bad, payloads, room_for, restoring, after_restoring};
 ghost use Rattle.backups_reading.specs.Told.{read_of, with_payload};
 
-use backups_judge::{Bad, first_bad};
-use backups_parts::{copy, pair_in, payload_end, space_of};
+use backups_judge::first_bad;
+use backups_parts::{pair_in, payload_end, space_of};
+use refusals::Refusal;
 
-// The number of the window's bytes and its space, or the refusal.
+// What is told of a window that was read: the number of its bytes, and its space.
 #[derive(Clone, Copy)]
-pub enum Read {
-    Window { size: usize, space: u64 },
-    Refused { number: usize, place: usize },
+pub struct Read {
+    pub size: usize,
+    pub space: u64,
 }
 
 // The number of bytes of the window in so many good blocks: all but the last are full.
@@ -22,10 +23,8 @@ fn window_size(b: &[u8], blocks: usize, space: u64) -> usize
     ensures { result ≡ length (payloads blocks b.now) }
 {
     let before = blocks - 1;
-    let from = 512 * before + 4;
-    let to = 512 * before + 6;
-    let used = pair_in(&b[from..to]);
-    502 * before + used as usize
+    let at = 512 * before;
+    502 * before + pair_in(&b[at + 4..at + 6]) as usize
 }
 
 // Puts the payload of the block at this position to its place.
@@ -36,8 +35,7 @@ fn put_payload(out: &mut [u8], position: usize, b: &[u8])
     let from = 502 * position;
     let to = payload_end(from, out.len());
     let at = 512 * position + 8;
-    let end = at + (to - from);
-    copy(&mut out[from..to], &b[at..end]);
+    out[from..to].copy_from_slice(&b[at..at + (to - from)]);
 }
 
 // Fills the output with the payloads of so many good blocks.
@@ -45,52 +43,41 @@ fn put_payloads(out: &mut [u8], b: &[u8], blocks: usize, space: u64)
     requires { (length b.now ≡ 512 * blocks) × (first_bad 0 blocks space b.now ≡ none) × (length out.old ≡ length (payloads blocks b.now)) }
     ensures { out.new ≡ payloads blocks b.now }
 {
-    let mut k = 0;
-    while k < blocks {
+    for k in 0..blocks {
         put_payload(out, k, b);
-        k += 1;
     }
 }
 
 // Puts the window of so many good blocks to the front of the output.
-fn put_window(b: &[u8], blocks: usize, space: u64, out: &mut [u8]) -> Read
+fn put_window(b: &[u8], blocks: usize, space: u64, out: &mut [u8]) -> Result<Read, Refusal>
     requires { (1 ≤ blocks) × (length b.now ≡ 512 * blocks) × (first_bad 0 blocks space b.now ≡ none) }
     ensures answer { read_of result ≡ room_for out.old (kept space (payloads blocks b.now)) }
     ensures after { out.new ≡ output_after (room_for out.old (kept space (payloads blocks b.now))) (payloads blocks b.now) out.old }
 {
     let size = window_size(b, blocks, space);
     if out.len() < size {
-        return Read::Refused {
+        return Err(Refusal {
             number: 41,
             place: 0,
-        };
+        });
     }
-    put_payloads(&mut out[0..size], b, blocks, space);
-    Read::Window { size, space }
+    put_payloads(&mut out[..size], b, blocks, space);
+    Ok(Read { size, space })
 }
 
 // Reads a backup: the window's bytes go to the front of the output.
-pub fn restore(b: &[u8], out: &mut [u8]) -> Read
+pub fn restore(b: &[u8], out: &mut [u8]) -> Result<Read, Refusal>
     ensures answer { read_of result ≡ restoring b.now out.old }
     ensures after { out.new ≡ after_restoring b.now out.old }
 {
-    if b.len() < 1 {
-        return Read::Refused {
+    if b.is_empty() || b.len() % 512 != 0 {
+        return Err(Refusal {
             number: 42,
             place: 0,
-        };
-    }
-    if b.len() % 512 != 0 {
-        return Read::Refused {
-            number: 42,
-            place: 0,
-        };
+        });
     }
     let blocks = b.len() / 512;
     let space = space_of(b);
-    let bad = first_bad(b, blocks, space);
-    match bad {
-        Bad::At { number, place } => Read::Refused { number, place },
-        Bad::Nothing => put_window(b, blocks, space, out),
-    }
+    first_bad(b, blocks, space)?;
+    put_window(b, blocks, space, out)
 }

@@ -1,14 +1,14 @@
 -- What the answer of storing means, and what one step of it leaves.
-use Rattle.std.specs.Prelude.{List, ◌++◌, ℕ, ◌+◌, ◌*◌, take, drop}
-use Rattle.cdi.specs.Faults.{fault, Answer, accepted, refused}
+use Rattle.std.specs.Prelude.{List, ◌++◌, ℕ, ◌+◌, ◌*◌, take, drop, Result, Ok, Err}
+use Rattle.cdi.specs.Faults.{Answer, accepted, refused}
 use Rattle.blocks.specs.Blocks.{block}
 use Rattle.blocks.specs.Backups.{last_flag}
-use Rattle.backups_storing.specs.declared.Stored.{Stored}
-use Rattle.backups_storing.specs.declared.Stored.TheVariants.{Size, Refused}
+use Rattle.refusals.specs.Refusals.{fault_of}
+use Rattle.refusals.specs.declared.Refusal.{Refusal}
 
-unfoldable pub stored_of : Stored → Answer ℕ
-stored_of (Size n) = accepted n
-stored_of (Refused n p) = refused (fault n p)
+unfoldable pub stored_of : Result ℕ Refusal → Answer ℕ
+stored_of (Ok n) = accepted n
+stored_of (Err r) = refused (fault_of r)
 
 -- the output with one block filled
 unfoldable pub with_block : ℕ → ℕ → ℕ → List ℕ → List ℕ → List ℕ

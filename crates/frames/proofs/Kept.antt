@@ -5,10 +5,9 @@ use Prim.Native.Nat.{ℕ, ◌≤◌}
 use borrow.Author.Rules.{rules}
 use borrow.Author.Tests.{leb-true}
 use Rattle.frames.specs.Limits.{keeps}
-use Rattle.frames.specs.declared.Field.{Field}
-use Rattle.frames.specs.declared.Field.TheVariants.{Is}
+use Rattle.std.specs.Prelude.{Option, Some}
 
-pub kept : (limit n : ℕ) (r : Field) → keeps limit r ≡ true → r ≡ Is n → n ≤ limit
+pub kept : (limit n : ℕ) (r : Option ℕ) → keeps limit r ≡ true → r ≡ Some n → n ≤ limit
 unfolding keeps
 kept limit n r k e = leb-true n limit (sym (ap (keeps limit) e) ∙ k)
 

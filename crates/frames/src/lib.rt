@@ -1,127 +1,71 @@
-// The fields of frames, read from standard input: bytes, and numbers that are big-endian.
+// The fields of frames, read from standard input: bytes, and numbers that are big-endian. A field is `None` where the input ended in it or where it is
+// beyond its limit.
 #![tactic(auto)]
 
-ghost use Rattle.std.specs.Prelude.{◌≡◌, true, ◌+◌, ◌*◌, ◌≤◌, ◌<◌, ◌^◌, length};
+ghost use Rattle.std.specs.Prelude.{◌≡◌, true, ◌*◌, ◌≤◌, IfSome, length};
 ghost use Rattle.frames.specs.Limits.{keeps};
 
-use frames_signed::signed;
-
-// A number that was read, or the input ended in it or it is beyond its limit.
-#[derive(Clone, Copy)]
-pub enum Field {
-    Is(u64),
-    Bad,
-}
-
-#[derive(Clone, Copy)]
-pub enum Byte {
-    Is(u8),
-    End,
-}
-
-// How much of a buffer's front was filled, and whether all of the field was read.
-#[derive(Clone, Copy)]
-pub struct Filled {
-    pub size: usize,
-    pub whole: bool,
-}
-
 // The next byte, if there is one.
-pub fn read_byte() -> Byte {
+pub fn read_byte() -> Option<u8> {
     let mut b = [0u8; 1];
-    let n = io::read_full(0, &mut b);
-    if n < 1 {
-        return Byte::End;
+    if io::read_full(0, &mut b) < 1 {
+        return None;
     }
-    Byte::Is(b[0])
-}
-
-fn wide(b: u8) -> u64
-    ensures { result < 256 }
-{
-    b as u64
-}
-
-fn four(a: u8, b: u8, c: u8, d: u8) -> u64
-    ensures { result < 2 ^ 32 }
-{
-    wide(a) * 0x100_0000 + wide(b) * 0x1_0000 + wide(c) * 0x100 + wide(d)
+    Some(b[0])
 }
 
 // Eight bytes.
-pub fn read_number() -> Field {
+pub fn read_number() -> Option<u64> {
     let mut b = [0u8; 8];
-    let n = io::read_full(0, &mut b);
-    if n < 8 {
-        return Field::Bad;
+    if io::read_full(0, &mut b) < 8 {
+        return None;
     }
-    Field::Is(four(b[0], b[1], b[2], b[3]) * 0x1_0000_0000 + four(b[4], b[5], b[6], b[7]))
+    Some(u64::from_be_bytes(b))
 }
 
 // Four bytes, and not above the limit.
-pub fn read_length(limit: u64) -> Field
+#[tactic(auto, unfolding(crate::specs::Limits::keeps))]
+pub fn read_length(limit: u64) -> Option<u64>
     ensures { keeps limit result ≡ true }
 {
     let mut b = [0u8; 4];
-    let n = io::read_full(0, &mut b);
-    if n < 4 {
-        return Field::Bad;
+    if io::read_full(0, &mut b) < 4 {
+        return None;
     }
-    let length = four(b[0], b[1], b[2], b[3]);
+    let length = u64::from(u32::from_be_bytes(b));
     if limit < length {
-        return Field::Bad;
+        return None;
     }
-    Field::Is(length)
+    Some(length)
 }
 
 // As many bytes as the part has.
 pub fn read_bytes(part: &mut [u8]) -> bool {
-    let n = io::read_full(0, part);
-    n == part.len()
+    io::read_full(0, part) == part.len()
 }
 
-// A length that the buffer has room for, and that many bytes.
-pub fn read_part(buffer: &mut [u8]) -> Filled
-    ensures { result.size ≤ length buffer.old }
+// A length that the buffer has room for, and that many bytes to its front.
+#[tactic(auto, using(crate::proofs::Kept::kept))]
+pub fn read_part(buffer: &mut [u8]) -> Option<usize>
+    ensures { IfSome result (λ size. size ≤ length buffer.old) }
 {
-    let limit = buffer.len() as u64;
-    let Field::Is(n) = read_length(limit) else {
-        return Filled {
-            size: 0,
-            whole: false,
-        };
-    };
-    let size = n as usize;
-    let whole = read_bytes(&mut buffer[0..size]);
-    Filled { size, whole }
-}
-
-// Eight bytes of a block as a number.
-fn eight_at(b: &[u8], at: usize) -> u64
-    requires { at + 8 ≤ length b.now }
-{
-    four(b[at], b[at + 1], b[at + 2], b[at + 3]) * 0x1_0000_0000
-        + four(b[at + 4], b[at + 5], b[at + 6], b[at + 7])
+    let size = read_length(buffer.len() as u64)? as usize;
+    if read_bytes(&mut buffer[..size]) {
+        Some(size)
+    } else {
+        None
+    }
 }
 
 // The numbers of a block to the front of a part of the table.
 fn decode(block: &[u8], part: &mut [i64])
     requires { length part.old * 8 ≤ length block.now }
 {
-    let mut i = 0;
-    while i < part.len() {
-        part[i] = signed(eight_at(block, i * 8));
-        i += 1;
+    for (i, number) in part.iter_mut().enumerate() {
+        let mut b = [0u8; 8];
+        b.copy_from_slice(&block[i * 8..i * 8 + 8]);
+        *number = i64::from_be_bytes(b);
     }
-}
-
-fn least(a: usize, b: usize) -> usize
-    ensures { (result ≤ a) × (result ≤ b) }
-{
-    if a < b {
-        return a;
-    }
-    b
 }
 
 // As many numbers as the part has, through a block that holds them.
@@ -129,43 +73,33 @@ fn read_block(part: &mut [i64], block: &mut [u8]) -> bool {
     if block.len() / 8 < part.len() {
         return false;
     }
-    let size = part.len() * 8;
-    if !read_bytes(&mut block[0..size]) {
+    let bytes = &mut block[..part.len() * 8];
+    if !read_bytes(bytes) {
         return false;
     }
-    decode(&block[0..size], part);
+    decode(bytes, part);
     true
 }
 
 // As many numbers as the part has, in blocks of 1,024.
-fn read_table(part: &mut [i64], block: &mut [u8]) -> bool {
-    let mut i = 0;
-    while i < part.len() {
-        let k = least(part.len() - i, 1024);
-        if k == 0 {
+fn read_table(table: &mut [i64], block: &mut [u8]) -> bool {
+    for part in table.chunks_mut(1024) {
+        if !read_block(part, block) {
             return false;
         }
-        let to = i + k;
-        if !read_block(&mut part[i..to], block) {
-            return false;
-        }
-        i = to;
     }
     true
 }
 
-// A count that the table has room for, and that many numbers.
-pub fn read_numbers(table: &mut [i64], block: &mut [u8]) -> Filled
-    ensures { result.size ≤ length table.old }
+// A count that the table has room for, and that many numbers to its front.
+#[tactic(auto, using(crate::proofs::Kept::kept))]
+pub fn read_numbers(table: &mut [i64], block: &mut [u8]) -> Option<usize>
+    ensures { IfSome result (λ count. count ≤ length table.old) }
 {
-    let limit = table.len() as u64;
-    let Field::Is(n) = read_length(limit) else {
-        return Filled {
-            size: 0,
-            whole: false,
-        };
-    };
-    let size = n as usize;
-    let whole = read_table(&mut table[0..size], block);
-    Filled { size, whole }
+    let count = read_length(table.len() as u64)? as usize;
+    if read_table(&mut table[..count], block) {
+        Some(count)
+    } else {
+        None
+    }
 }

@@ -1,23 +1,16 @@
-use Rattle.backups_storing.proofs.Storing.{storing_ways}
+use Rattle.std.proofs.Common.{◌<◌, length, ◌⊎◌, rules}
+use Rattle.backups_storing.proofs.Storing.{unfit_told, unfit_left, storing_ways}
 use Rattle.backups_storing.proofs.store.Goals as goal
 
-pub returns-then-bytes-lt1-clause-answer : goal.returns-then-bytes-lt1-clause-answer
-returns-then-bytes-lt1-clause-answer c = search storing_ways
+pub returns-then-is_empty-clause-answer : goal.returns-then-is_empty-clause-answer
+returns-then-is_empty-clause-answer c =
+    let h : (length c.args.bytes.now < 1) ⊎ ((4294967296 < length c.args.bytes.now) ⊎ (255 < c.args.space)) = search rules in
+    unfit_told c.args.space c.args.bytes.now c.args.out.now h
 
-pub returns-then-bytes-lt1-clause-after : goal.returns-then-bytes-lt1-clause-after
-returns-then-bytes-lt1-clause-after c = search storing_ways
-
-pub returns-then-bytes-gt4294967296-clause-answer : goal.returns-then-bytes-gt4294967296-clause-answer
-returns-then-bytes-gt4294967296-clause-answer c = search storing_ways
-
-pub returns-then-bytes-gt4294967296-clause-after : goal.returns-then-bytes-gt4294967296-clause-after
-returns-then-bytes-gt4294967296-clause-after c = search storing_ways
-
-pub returns-then-space-gt255-clause-answer : goal.returns-then-space-gt255-clause-answer
-returns-then-space-gt255-clause-answer c = search storing_ways
-
-pub returns-then-space-gt255-clause-after : goal.returns-then-space-gt255-clause-after
-returns-then-space-gt255-clause-after c = search storing_ways
+pub returns-then-is_empty-clause-after : goal.returns-then-is_empty-clause-after
+returns-then-is_empty-clause-after c =
+    let h : (length c.args.bytes.now < 1) ⊎ ((4294967296 < length c.args.bytes.now) ⊎ (255 < c.args.space)) = search rules in
+    unfit_left c.args.space c.args.bytes.now c.args.out.now h
 
 pub returns-then-out-size-clause-answer : goal.returns-then-out-size-clause-answer
 returns-then-out-size-clause-answer c = search storing_ways

@@ -1,0 +1,5 @@
+use Rattle.backups_block.proofs.Putting.{putting}
+use Rattle.backups_block.proofs.put_front.Goals as goal
+
+pub returns : goal.returns
+returns c = search putting

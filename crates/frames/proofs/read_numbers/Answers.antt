@@ -1,0 +1,5 @@
+use Rattle.frames.proofs.Kept.{room}
+use Rattle.frames.proofs.read_numbers.Goals as goal
+
+pub slice_bounds-read_table-end-2 : goal.slice_bounds-read_table-end-2
+slice_bounds-read_table-end-2 c = search room
