@@ -12,25 +12,24 @@ use numbers::{Number, read_number};
 use pieces::piece_at;
 use pieces_attributes::next_attribute;
 use pieces_cuts::{Cut, Kind};
-use text::{End, Place, bad_character, content_end, is_utf8};
+use text::{bad_character, content_end, is_utf8};
 
 // `end PLACE` or `refused 1 PLACE`
 fn ending(s: &[u8]) -> Line
     ensures { result.count ≤ 4 }
 {
-    let end = content_end(s);
-    match end {
-        End::At(place) => one(words::END, place as u64),
-        End::Missing(place) => refused(1, place),
+    match content_end(s) {
+        Ok(place) => one(words::END, place as u64),
+        Err(place) => refused(1, place),
     }
 }
 
-fn place(found: Place) -> Line
+fn place(found: Option<usize>) -> Line
     ensures { result.count ≤ 4 }
 {
     match found {
-        Place::At(place) => one(words::BAD, place as u64),
-        Place::Nothing => plain(words::GOOD),
+        Some(place) => one(words::BAD, place as u64),
+        None => plain(words::GOOD),
     }
 }
 

@@ -4,12 +4,12 @@ use mathlib.Core.List.{List}
 use Prim.Native.Nat.{ℕ, ◌-◌, ◌≤◌}
 use native.Mathlib.Omega.{arith}
 use lib.ListN.{length, take, drop, length-take}
-use Rattle.plan_opening.specs.declared.Opened.{Opened}
-use Rattle.plan_opening.specs.declared.Opened.TheVariants.{Ends}
+use Rattle.std.specs.Prelude.{Result, Ok}
+use Rattle.refusals.specs.declared.Refusal.{Refusal}
 use Rattle.plan_opening.specs.Openings.{Ended}
 
-module _ (b : List ℕ) {o : Opened} (e : Ended b o) {z : ℕ} (q : o ≡ Ends z) where
-  there : Ended b (Ends z)
+module _ (b : List ℕ) {o : Result ℕ Refusal} (e : Ended b o) {z : ℕ} (q : o ≡ Ok z) where
+  there : Ended b (Ok z)
   there = rw q at e
 
   pub lent_end : z ≤ length b

@@ -13,8 +13,8 @@ use lib.Seq.{get_or-drop}
 use Rattle.cdi.specs.Text.{Character as Decoded, continues, scalar, sequence, character_at}
 use Rattle.scan.proofs.Along.{drop_next}
 use Rattle.text_characters.specs.Answers.{character_of, width_in}
+use Rattle.std.specs.Prelude.{Option as Answer, Some, None}
 use Rattle.text_characters.specs.declared.Character.{Character}
-use Rattle.text_characters.specs.declared.Character.TheVariants.{Is, Not}
 
 pub and_true : (x y : Bool) → x ≡ true → (x && y) ≡ y
 and_true x y e = rw e
@@ -30,20 +30,20 @@ both_tests a e = rw e
 -- ── a sequence of several bytes ──
 
 module _ {t : Bool} (p : Bool) (f : t ≡ p) where
-  pub unmet : (c smallest w : ℕ) → t ≡ false → character_of Not ≡ sequence p c smallest w
+  pub unmet : (c smallest w : ℕ) → t ≡ false → character_of None ≡ sequence p c smallest w
   unfolding character_of sequence
   unmet c smallest w e = rw (← f, e)
 
-  pub first_unmet : (q : Bool) (c smallest w : ℕ) → t ≡ false → character_of Not ≡ sequence (p && q) c smallest w
+  pub first_unmet : (q : Bool) (c smallest w : ℕ) → t ≡ false → character_of None ≡ sequence (p && q) c smallest w
   unfolding character_of sequence
   first_unmet q c smallest w e = rw (← f, e)
 
-  pub second_unmet : {u : Bool} (q : Bool) (c smallest w : ℕ) → t ≡ true → u ≡ q → u ≡ false → character_of Not ≡ sequence (p && q) c smallest w
+  pub second_unmet : {u : Bool} (q : Bool) (c smallest w : ℕ) → t ≡ true → u ≡ q → u ≡ false → character_of None ≡ sequence (p && q) c smallest w
   unfolding character_of sequence
   second_unmet q c smallest w e g h = rw (← f, e, ← g, h)
 
 -- its number is made byte by byte
-module _ (r : Character) {x y : ℕ} (a b smallest w : ℕ) (f : x ≡ a) (g : y ≡ x * 64 + b) where
+module _ (r : Answer Character) {x y : ℕ} (a b smallest w : ℕ) (f : x ≡ a) (g : y ≡ x * 64 + b) where
   pub two : {t : Bool} (p : Bool) → t ≡ p → t ≡ true → character_of r ≡ sequence true y smallest w → character_of r ≡ sequence p (a * 64 + b) smallest w
   two p e k h = h ∙ rw (g, f, ← e, k)
 
@@ -60,7 +60,7 @@ pub ruleset several = (unmet, first_unmet, second_unmet, two, three, four, rules
 
 -- ── by the first byte ──
 
-module _ (r : Character) (a b c d : ℕ) where
+module _ (r : Answer Character) (a b c d : ℕ) where
   pub of_one : a < 128 → character_of r ≡ sequence true a 0 1 → character_of r ≡ character_at (a ∷ b ∷ c ∷ d ∷ [])
   unfolding character_at
   of_one h e = e ∙ sym (rw (lt-ltb a 128 h))
@@ -80,11 +80,11 @@ module _ (r : Character) (a b c d : ℕ) where
       of_four_bytes h e = e ∙ sym (rw (le-ltb a 128 (omega arith), le-ltb a 192 (omega arith), le-ltb a 224 l, le-ltb a 240 m, lt-ltb a 248 h))
 
 module _ (a b c d : ℕ) where
-  pub stray_byte : 128 ≤ a → a < 192 → character_of Not ≡ character_at (a ∷ b ∷ c ∷ d ∷ [])
+  pub stray_byte : 128 ≤ a → a < 192 → character_of None ≡ character_at (a ∷ b ∷ c ∷ d ∷ [])
   unfolding character_at character_of
   stray_byte l h = sym (rw (le-ltb a 128 l, lt-ltb a 192 h))
 
-  pub no_first_byte : 248 ≤ a → character_of Not ≡ character_at (a ∷ b ∷ c ∷ d ∷ [])
+  pub no_first_byte : 248 ≤ a → character_of None ≡ character_at (a ∷ b ∷ c ∷ d ∷ [])
   unfolding character_at character_of
   no_first_byte h = sym (rw (le-ltb a 128 (omega arith), le-ltb a 192 (omega arith), le-ltb a 224 (omega arith), le-ltb a 240 (omega arith), le-ltb a 248 h))
 
@@ -98,14 +98,14 @@ unfolding character_at
 front x s t e f g = rw (e, f, g)
 
 module _ (s : List ℕ) (at : ℕ) where
-  pub past : length s ≤ at → character_of Not ≡ character_at (drop at s)
+  pub past : length s ≤ at → character_of None ≡ character_at (drop at s)
   unfolding character_of character_at
   past h = rw (drop_of_length-le s h)
 
   further : (k n : ℕ) → at + 1 + k ≡ n → get_or (drop (at + 1) s) k 0 ≡ get_or s n 0
   further k n e = get_or-drop (at + 1) s k 0 ∙ ap (λ j. get_or s j 0) e
 
-  pub stands : (r : Character) {b c d : ℕ} → at < length s → b ≡ get_or s (at + 1) 0 → c ≡ get_or s (at + 2) 0 → d ≡ get_or s (at + 3) 0
+  pub stands : (r : Answer Character) {b c d : ℕ} → at < length s → b ≡ get_or s (at + 1) 0 → c ≡ get_or s (at + 2) 0 → d ≡ get_or s (at + 3) 0
       → character_of r ≡ character_at (get_or s at 0 ∷ b ∷ c ∷ d ∷ []) → character_of r ≡ character_at (drop at s)
   stands r {b} {c} {d} h e f g is = is ∙ sym (rw (drop_next s at h) (front (get_or s at 0) (drop (at + 1) s) (b ∷ c ∷ d ∷ [])
       (further 0 (at + 1) (omega arith) ∙ sym e) (further 1 (at + 2) (omega arith) ∙ sym f) (further 2 (at + 3) (omega arith) ∙ sym g)))
@@ -142,22 +142,20 @@ fit (a ∷ s) =
     (either (ltb a 248) _ _ (fit_sequence _ _ _ 4 (omega arith) (omega arith)) fit_none))))
 
 -- the width of one that passes a test
-module _ (p : ℕ → Bool) {r : Character} (o : Option Decoded) (e : character_of r ≡ o) where
-  pub nothing : r ≡ Not → 0 ≡ width_in p o
+module _ (p : ℕ → Bool) (o : Option Decoded) where
+  pub no_width : character_of None ≡ o → width_in p o ≡ 0
   unfolding character_of width_in
-  nothing f = rw (← e, f)
+  no_width e = rw (← e)
 
-  module _ {t : Bool} {c w : ℕ} (f : r ≡ Is c w) (g : t ≡ p c) where
-    pub passes : t ≡ true → w ≡ width_in p o
+  module _ (c : Character) (e : character_of (Some c) ≡ o) where
+    pub passes : p c.code ≡ true → c.width ≡ width_in p o
     unfolding character_of width_in
-    passes h = rw (← e, f, ← g, h)
+    passes h = rw (← e, h)
 
-    pub fails : t ≡ false → 0 ≡ width_in p o
+    pub fails : p c.code ≡ false → width_in p o ≡ 0
     unfolding character_of width_in
-    fails h = rw (← e, f, ← g, h)
+    fails h = rw (← e, h)
 
-pub narrow : {r : Character} (s : List ℕ) {c w : ℕ} → character_of r ≡ character_at s → r ≡ Is c w → w ≤ 4
+pub fits : (s : List ℕ) (c : Character) → character_of (Some c) ≡ character_at s → (1 ≤ c.width) × (c.width ≤ 4)
 unfolding character_of Fit
-narrow s {c} {w} e f = let k : Fit (character_of (Is c w)) = subst Fit (sym e ∙ ap character_of f) (fit s) in k.1
-
-pub ruleset widths = (nothing, passes, fails, narrow, rules)
+fits s c e = let h : Fit (character_of (Some c)) = subst Fit (sym e) (fit s) in h

@@ -1,14 +1,13 @@
 -- What the answer about a character means.
-use Rattle.std.specs.Prelude.{Bool, cond, ℕ}
+use Rattle.std.specs.Prelude.{Bool, cond, ℕ, Option as Answer, Some, None}
 use Rattle.std.proofs.Math.Option.{Option, none, some}
 use Rattle.cdi.specs.Lists.{given}
 use Rattle.cdi.specs.Text.{Character as Decoded}
 use Rattle.text_characters.specs.declared.Character.{Character}
-use Rattle.text_characters.specs.declared.Character.TheVariants as character
 
-unfoldable pub character_of : Character → Option Decoded
-character_of (character.Is c w) = some (record { code = c; width = w })
-character_of character.Not = none
+unfoldable pub character_of : Answer Character → Option Decoded
+character_of (Some c) = some (record { code = c.code; width = c.width })
+character_of None = none
 
 -- the width of a character that passes, or 0
 unfoldable pub width_in : (ℕ → Bool) → Option Decoded → ℕ

@@ -6,25 +6,15 @@ ghost use Rattle.cdi.specs.Text.{bad_character, is_utf8};
 ghost use Rattle.text.specs.Answers.{end_answer, ending, place_of};
 ghost use Rattle.timed.specs.Contents.{place_in, place_or, bad_in};
 
-use text::{End, Place, bad_behind, bad_character, content_end, examine, is_utf8};
+use text::{bad_behind, bad_character, content_end, examine, is_utf8};
 
 // The place that an end tells, of the zero or of refusal 1.
-fn place_of(end: End) -> usize
+#[tactic(auto, unfolding(text::specs::Answers::end_answer, crate::specs::Contents::place_in))]
+fn place_of(end: Result<usize, usize>) -> usize
     ensures { result ≡ place_in (end_answer end) }
 {
     match end {
-        End::At(place) => place,
-        End::Missing(place) => place,
-    }
-}
-
-// A place, or another number where there is none.
-fn place_or(bad: Place, other: usize) -> usize
-    ensures { result ≡ place_or other (place_of bad) }
-{
-    match bad {
-        Place::At(place) => place,
-        Place::Nothing => other,
+        Ok(place) | Err(place) => place,
     }
 }
 
@@ -41,7 +31,7 @@ pub extern "C" fn timed_end(text: &[u8]) -> usize
 pub extern "C" fn timed_characters(content: &[u8]) -> usize
     ensures { result ≡ place_or (length content.now) (bad_character content.now) }
 {
-    place_or(bad_character(content), content.len())
+    bad_character(content).unwrap_or(content.len())
 }
 
 // Is it UTF-8?
@@ -58,9 +48,8 @@ pub extern "C" fn timed_content(text: &[u8]) -> usize
     ensures { result ≡ bad_in text.now (ending text.now) }
 {
     let told = examine(text);
-    let ends = told.end;
-    match ends {
-        End::Missing(place) => place,
-        End::At(end) => place_or(bad_behind(&text[0..end], told.run), end),
+    match told.end {
+        Ok(end) => bad_behind(&text[0..end], told.run).unwrap_or(end),
+        Err(place) => place,
     }
 }

@@ -9,8 +9,8 @@ loop-i-init c = search character_loop
 pub loop-i-preserved-then-starts_run : goal.loop-i-preserved-then-starts_run
 loop-i-preserved-then-starts_run c = search (run_on, c.loop-i, c.plain_run-i, arith)
 
-pub returns-then-width-eq0 : goal.returns-then-width-eq0
-returns-then-width-eq0 c = search character_loop
+pub returns-in_default : goal.returns-in_default
+returns-in_default c = search character_loop
 
 pub loop-i-preserved : goal.loop-i-preserved
 loop-i-preserved c = search character_loop

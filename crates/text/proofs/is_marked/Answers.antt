@@ -6,6 +6,6 @@ pub returns-then-byte_at-eq239 : goal.returns-then-byte_at-eq239
 unfolding mark
 returns-then-byte_at-eq239 c = search mark_test
 
-pub returns : goal.returns
+pub returns-else-byte_at-eq239 : goal.returns-else-byte_at-eq239
 unfolding mark
-returns c = search mark_test
+returns-else-byte_at-eq239 c = search mark_test
