@@ -21,8 +21,11 @@ const LONGER: usize = 32768;
 // Stages 4 to 13 of content that begins with the first line, with rows of this length; nothing where these are too few. It isn't compiled into its
 // callers, so that their frames don't hold its rows.
 #[inline(never)]
-fn plan_in<const LENGTH: usize>(content: &[u8], table: &mut [i64]) -> Option<Result<Planned, Refusal>>
-    requires { (22 ≤ length content.now) × (length content.now ≤ 65535) × (LENGTH % 8 ≡ 0) }
+fn plan_in<const LENGTH: usize>(
+    content: &[u8],
+    table: &mut [i64],
+) -> Option<Result<Planned, Refusal>>
+    requires { (22 ≤ length content.now) × (length content.now ≤ 65535) × (LENGTH % 8 ≡ 0) × (LENGTH ≤ 32768) }
     ensures told { MatchOption result (table.new ≡ table.old) (λ r. (r ≡ planned_by (of_markup content.now) (length table.old)) × (table.new ≡ after_by (of_markup content.now) table.old)) }
     ensures room { 32768 ≤ LENGTH → IsSome result }
 {
@@ -45,10 +48,14 @@ fn plan_content(content: &[u8], table: &mut [i64]) -> Result<Planned, Refusal>
     ensures answer { result ≡ planned_by (of_markup content.now) (length table.old) }
     ensures after { table.new ≡ after_by (of_markup content.now) table.old }
 {
-    if content.len() <= SHORT && let Some(told) = plan_in::<FEW>(content, table) {
+    if content.len() <= SHORT
+        && let Some(told) = plan_in::<FEW>(content, table)
+    {
         return told;
     }
-    if content.len() <= LONGER && let Some(told) = plan_in::<MORE>(content, table) {
+    if content.len() <= LONGER
+        && let Some(told) = plan_in::<MORE>(content, table)
+    {
         return told;
     }
     plan_in::<MANY>(content, table).unwrap()
