@@ -21,7 +21,7 @@ use Rattle.scan.proofs.Tests.{lt_or_le}
 use Rattle.plan_opening.specs.Openings.{opened_of, Ended}
 use Rattle.plan_opening.proofs.Lent.{lent_end, lent_whole, lent_long, lent_short}
 use Rattle.refusals.specs.declared.Refusal.{Refusal}
-use Rattle.refusals.specs.Refusals.{refusal, fault_of}
+use Rattle.refusals.specs.Refusals.{refusal}
 use Rattle.plan_stages.specs.declared.Planned.{Planned}
 use Rattle.plan_stages.specs.Outlines.{Outline, outlined, of_markup, in_room, said_of, Few}
 use Rattle.plan_table.proofs.Placing.{not_described, is_counted, few_told}

@@ -17,6 +17,7 @@ use refusals::Refusal;
 use terms::FIELDS;
 
 // Is the table that of so many records, all of which these rows have?
+#[tactic(auto, using(crate::proofs::Comparing::fronts_compared))]
 fn is_planned(table: &[i64], rows: &[i64], records: usize) -> bool
     requires { records ≤ 4096 }
     ensures { result ≡ (leb (8 * records) (length rows.now) && same_table table.now (take (8 * records) rows.now)) }
@@ -26,7 +27,13 @@ fn is_planned(table: &[i64], rows: &[i64], records: usize) -> bool
 }
 
 // The end of the content, or 20, where the content is told with these rows.
-fn compared(told: Result<Planned, Refusal>, rows: &[i64], table: &[i64], end: usize) -> Result<usize, Refusal>
+#[tactic(auto, using(crate::proofs::Comparing::telling))]
+fn compared(
+    told: Result<Planned, Refusal>,
+    rows: &[i64],
+    table: &[i64],
+    end: usize,
+) -> Result<usize, Refusal>
     requires { Few told }
     ensures { result ≡ compared_by told rows.now table.now end }
 {
@@ -44,7 +51,7 @@ fn compared(told: Result<Planned, Refusal>, rows: &[i64], table: &[i64], end: us
 // It isn't compiled into its callers, so that their frames don't hold its rows.
 #[inline(never)]
 fn compare_in<const LENGTH: usize>(content: &[u8], table: &[i64]) -> Result<usize, Refusal>
-    requires { (22 ≤ length content.now) × (length content.now ≤ 65535) × (LENGTH % 8 ≡ 0) × ((length table.now ≤ LENGTH) ⊎ (32768 ≤ LENGTH)) }
+    requires { (22 ≤ length content.now) × (length content.now ≤ 65535) × (LENGTH % 8 ≡ 0) × (LENGTH ≤ 32768) × ((length table.now ≤ LENGTH) ⊎ (32768 ≤ LENGTH)) }
     ensures { checked_of result ≡ compared_of content.now table.now }
 {
     let mut rows = [0i64; LENGTH];
