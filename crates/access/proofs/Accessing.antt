@@ -3,6 +3,7 @@ use mathlib.Core.Path.{◌≡◌, sym, ap, ◌∙◌}
 use mathlib.Core.List.{List}
 use Prim.Native.Nat.{ℕ, ◌-◌}
 use borrow.Author.Rules.{rules}
+use Rattle.std.specs.Prelude.{Result, Ok, Err}
 use lib.IntN.{ℤ}
 use lib.ListN.{take, drop}
 use Rattle.cdi.specs.Faults.{Fault, fault, Answer, accepted, refused, ◌and_then◌}
@@ -15,8 +16,8 @@ use Rattle.access_kinds.specs.Told.{setting_is, Good, window_of}
 use Rattle.access_writing.specs.Told.{written_of}
 use Rattle.access_reading.specs.Told.{reading_of, ReadAt}
 use Rattle.access.specs.Told.{start_for}
-use Rattle.access_checked.specs.declared.Checked.{Checked}
-use Rattle.access_checked.specs.declared.Checked.TheVariants as checked
+use Rattle.refusals.specs.declared.Refusal.{Refusal}
+use Rattle.refusals.specs.Refusals.{fault_of}
 use Rattle.access_kinds.specs.declared.Setting.{Setting}
 use Rattle.access_lookup.specs.declared.Lookup.{Lookup}
 use Rattle.access_lookup.specs.declared.Lookup.TheVariants.{Is, Nothing}
@@ -52,24 +53,24 @@ not_known b t n f e = by (described b and_then exact t) e
     by (accepted d) x = impossible (cc)
     by (refused g) x = cc
 
-module _ (b : List ℕ) (t : List ℤ) {a : Checked} (e : checked_of a ≡ known_of b t) where
-  pub checked_exact : {z : ℕ} → a ≡ checked.Exact z → known_of b t ≡ accepted z
+module _ (b : List ℕ) (t : List ℤ) {a : Result ℕ Refusal} (e : checked_of a ≡ known_of b t) where
+  pub checked_exact : {z : ℕ} → a ≡ Ok z → known_of b t ≡ accepted z
   unfolding checked_of
   checked_exact q = sym e ∙ ap checked_of q
 
-  module _ (m : ℕ) {n p : ℕ} (q : a ≡ checked.Refused n p) where
-    is_refused : setting_of b t m ≡ refused (fault n p)
+  module _ (m : ℕ) {r : Refusal} (q : a ≡ Err r) where
+    is_refused : setting_of b t m ≡ refused (fault_of r)
     unfolding checked_of
-    is_refused = not_known b t m (fault n p) (sym e ∙ ap checked_of q)
+    is_refused = not_known b t m (fault_of r) (sym e ∙ ap checked_of q)
 
-    pub check_unwritten : (w : Window) (v : Value) → written_of (written.Refused n p) ≡ written b t m w v
+    pub check_unwritten : (w : Window) (v : Value) → written_of (written.Refused r.number r.place) ≡ written b t m w v
     unfolding written_of
     check_unwritten w v = sym (unwritten b t m is_refused w v)
 
     pub check_unchanged : (space first : ℕ) (bytes : List ℕ) (v : Value) → bytes ≡ window_after b t m (window_of space first bytes) v
     check_unchanged space first bytes v = sym (unchanged b t m is_refused (window_of space first bytes) v)
 
-    pub check_unread : (space first : ℕ) (bytes : List ℕ) → reading_of bytes (reading.Refused n p) ≡ read b t m (window_of space first bytes)
+    pub check_unread : (space first : ℕ) (bytes : List ℕ) → reading_of bytes (reading.Refused r.number r.place) ≡ read b t m (window_of space first bytes)
     unfolding reading_of
     check_unread space first bytes = sym (unread b t m is_refused (window_of space first bytes))
 

@@ -22,8 +22,9 @@ use Rattle.access_order.specs.Told.{cause_of}
 use Rattle.access_writing.specs.Told.{written_of}
 use Rattle.access_reading.specs.Told.{reading_of, ReadAt}
 use Rattle.access.specs.Told.{start_for}
-use Rattle.access_checked.specs.declared.Checked.{Checked}
-use Rattle.access_checked.specs.declared.Checked.TheVariants as checked
+use Rattle.std.specs.Prelude.{Result, Ok, Err}
+use Rattle.refusals.specs.declared.Refusal.{Refusal}
+use Rattle.refusals.specs.Refusals.{refusal}
 use Rattle.access_lookup.specs.declared.Lookup.{Lookup}
 use Rattle.access_writing.specs.declared.Written.{Written}
 use Rattle.access_writing.specs.declared.Written.TheVariants as written
@@ -36,16 +37,16 @@ module _ {A : Type 0} where
 
 -- ── the check, and the setting ──
 
-checked_alike : (r q : Checked) → checked_of r ≡ checked_of q → r ≡ q
+checked_alike : (r q : Result ℕ Refusal) → checked_of r ≡ checked_of q → r ≡ q
 unfolding checked_of
-checked_alike (checked.Exact e) (checked.Exact f) z = ap checked.Exact (same_accepted z)
-checked_alike (checked.Exact e) (checked.Refused n p) z = impossible (cc)
-checked_alike (checked.Refused n p) (checked.Exact f) z = impossible (cc)
-checked_alike (checked.Refused n p) (checked.Refused m o) z = ap (λ (f : Fault). checked.Refused f.number f.place) (same_refused z)
+checked_alike (Ok e) (Ok f) z = ap Ok (same_accepted z)
+checked_alike (Ok e) (Err f) z = impossible (cc)
+checked_alike (Err f) (Ok e) z = impossible (cc)
+checked_alike (Err f) (Err g) z = ap (λ (x : Fault). Err (refusal x.number x.place)) (same_refused z)
 
 module _ (b : List ℕ) (t : List ℤ) where
   -- of access_checked::check
-  pub check_once : (r q : Checked) → checked_of r ≡ known_of b t → checked_of q ≡ known_of b t → r ≡ q
+  pub check_once : (r q : Result ℕ Refusal) → checked_of r ≡ known_of b t → checked_of q ≡ known_of b t → r ≡ q
   check_once r q e f = checked_alike r q (once e f)
 
   -- of access_lookup::seek

@@ -13,7 +13,7 @@ ghost use Rattle.access_writing.specs.Told.{written_of};
 ghost use Rattle.access_reading.specs.Told.{reading_of, ReadAt};
 ghost use Rattle.access.specs.Told.{start_for};
 
-use access_checked::{Checked, check};
+use access_checked::check;
 use access_lookup::{Lookup, seek};
 use access_reading::{Reading, fetch};
 use access_writing::{Written, store};
@@ -83,8 +83,11 @@ fn write(
 {
     let checked = check(text, table);
     match checked {
-        Checked::Refused { number, place } => Written::Refused { number, place },
-        Checked::Exact(end) => write_known(
+        Err(refusal) => Written::Refused {
+            number: refusal.number,
+            place: refusal.place,
+        },
+        Ok(end) => write_known(
             text, end, table, n, space, first, window, value, string,
         ),
     }
@@ -150,7 +153,10 @@ pub fn read(text: &[u8], table: &[i64], n: u64, space: u64, first: u64, window: 
 {
     let checked = check(text, table);
     match checked {
-        Checked::Refused { number, place } => Reading::Refused { number, place },
-        Checked::Exact(end) => read_known(text, end, table, n, space, first, window),
+        Err(refusal) => Reading::Refused {
+            number: refusal.number,
+            place: refusal.place,
+        },
+        Ok(end) => read_known(text, end, table, n, space, first, window),
     }
 }

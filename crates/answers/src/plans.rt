@@ -9,6 +9,7 @@ use frames_hash::hash;
 use frames_signed::signed;
 use plan::plan;
 use plan_stages::Planned;
+use refusals::Refusal;
 
 // The table that is lent: number i holds -7 - i.
 fn fill(table: &mut [i64]) {
@@ -20,14 +21,12 @@ fn fill(table: &mut [i64]) {
 }
 
 // `planned RECORDS VARIABLES` or `refused NUMBER PLACE`
-fn told(answer: Planned) -> Line
+fn told(answer: Result<Planned, Refusal>) -> Line
     ensures { result.count ≤ 4 }
 {
     match answer {
-        Planned::Accepted { records, variables } => {
-            two(words::PLANNED, records as u64, variables)
-        }
-        Planned::Refused { number, place } => refused(number, place),
+        Ok(found) => two(words::PLANNED, found.records as u64, found.variables),
+        Err(refusal) => refused(refusal.number, refusal.place),
     }
 }
 

@@ -17,41 +17,45 @@ use Rattle.cdi.proofs.Promises.{table_is_plan}
 use Rattle.cdi.proofs.PlanOf.{length_table}
 use Rattle.cdi.proofs.Quiet.{impossible}
 use borrow.Author.Rules.{rules}
+use Rattle.std.specs.Prelude.{Result, Ok}
+use Rattle.refusals.specs.declared.Refusal.{Refusal}
 use Rattle.plan_stages.specs.declared.Planned.{Planned}
-use Rattle.plan_stages.specs.declared.Planned.TheVariants.{Accepted}
 use Rattle.plan_stages.specs.Outlines.{answer_of}
 
 same_records : (c c' : Counts) → accepted c ≡ accepted c' → c.records ≡ c'.records
 same_records c c' e = let y : c ≡ c' = cc in ap (λ (x : Counts). x.records) y
 
-module _ (b : List ℕ) (t : List ℤ) {a : Planned} (e : answer_of a ≡ planned b t) {n v : ℕ} (q : a ≡ Accepted n v) where
-  counts : accepted (record { records = n; variables = v }) ≡ planned b t
+module _ (b : List ℕ) (t : List ℤ) {a : Result Planned Refusal} (e : answer_of a ≡ planned b t) {d : Planned} (q : a ≡ Ok d) where
+  abbrev n : ℕ
+  n = d.records
+
+  counts : accepted (record { records = n; variables = d.variables }) ≡ planned b t
   unfolding answer_of
   counts = sym (ap answer_of q) ∙ e
 
   -- what the text describes, and that it has room
-  told : {P : Type 0} → ((d : Description) → described b ≡ accepted d → n ≡ records_of d.segments → 8 * n ≤ length t → P) → P
+  told : {P : Type 0} → ((w : Description) → described b ≡ accepted w → n ≡ records_of w.segments → 8 * n ≤ length t → P) → P
   unfolding counts_of
   told {P} f = by (described b) refl
     where
-      by : (d : Answer Description) → described b ≡ d → P
+      by : (w : Answer Description) → described b ≡ w → P
       by (refused g) k = let x = counts ∙ refuses b t g k in impossible (cc)
-      by (accepted d) k = held (dec_le (8 * records_of d.segments) (length t))
+      by (accepted w) k = held (dec_le (8 * records_of w.segments) (length t))
         where
-          held : Dec (8 * records_of d.segments ≤ length t) → P
+          held : Dec (8 * records_of w.segments ≤ length t) → P
           held (yes h) =
-              let z : n ≡ records_of d.segments = same_records _ _ (counts ∙ fits b t d k h) in
-              f d k z (omega arith)
-          held (no h) = let x = counts ∙ short b t d k (omega arith) in impossible (cc)
+              let z : n ≡ records_of w.segments = same_records _ _ (counts ∙ fits b t w k h) in
+              f w k z (omega arith)
+          held (no h) = let x = counts ∙ short b t w k (omega arith) in impossible (cc)
 
   pub has_room_law : 8 * n ≤ length t
-  has_room_law = told λ d k z h. h
+  has_room_law = told λ w k z h. h
 
   pub plan_in_front : (t' : List ℤ) → t' ≡ table_after b t → is_plan (take (8 * n - 0) (drop 0 t')) ≡ true
   unfolding placed
-  plan_in_front t' w = told λ d k z h.
-      let l : length (table_of d.segments) ≡ 8 * n - 0 = omega (arith, length_table d.segments) in
-      let m : 8 * records_of d.segments ≤ length t = omega arith in
-      ap (λ (x : List ℤ). is_plan (take (8 * n - 0) x)) (w ∙ fits_table b t d k m)
-      ∙ ap is_plan (take_at (table_of d.segments) (drop (length (table_of d.segments)) t) (8 * n - 0) l)
-      ∙ table_is_plan b d k
+  plan_in_front t' g = told λ w k z h.
+      let l : length (table_of w.segments) ≡ 8 * n - 0 = omega (arith, length_table w.segments) in
+      let m : 8 * records_of w.segments ≤ length t = omega arith in
+      ap (λ (x : List ℤ). is_plan (take (8 * n - 0) x)) (g ∙ fits_table b t w k m)
+      ∙ ap is_plan (take_at (table_of w.segments) (drop (length (table_of w.segments)) t) (8 * n - 0) l)
+      ∙ table_is_plan b w k

@@ -11,7 +11,6 @@ use input::{Text, read_text};
 use lines::{put_count, put_refusal};
 use list_lines::lines_from;
 use plan::plan;
-use plan_stages::Planned;
 use std::io::Stdin;
 use terms::{FIELDS, MOST_VARIABLES, TEXT_LIMIT};
 
@@ -52,17 +51,12 @@ fn write_count(variables: u64, out: &mut [u8]) -> bool
 fn answer(text: &[u8], table: &mut [i64], numbers: &mut [u64], out: &mut [u8]) -> bool
     requires { (64 ≤ length out.old) × (length numbers.old / 5 * 92 ≤ length out.old) }
 {
-    let told = plan(text, table);
-    match told {
-        Planned::Refused { number, place } => write_refusal(number, place, out),
-        Planned::Accepted { records, variables } => {
-            let size = FIELDS * records;
-            let written = write_count(variables, out);
-            if written {
-                return write_lines(&table[0..size], numbers, out);
-            }
-            false
+    match plan(text, table) {
+        Ok(found) => {
+            let size = FIELDS * found.records;
+            write_count(found.variables, out) && write_lines(&table[0..size], numbers, out)
         }
+        Err(refusal) => write_refusal(refusal.number, refusal.place, out),
     }
 }
 

@@ -3,25 +3,24 @@ use mathlib.Core.Path.{◌≡◌, sym, ap, ◌∙◌}
 use mathlib.Core.List.{List}
 use Prim.Native.Nat.{ℕ}
 use lib.IntN.{ℤ}
-use Rattle.cdi.specs.Faults.{Fault, fault}
+use Rattle.std.specs.Prelude.{Result, Ok, Err}
+use Rattle.cdi.specs.Faults.{Fault}
 use Rattle.cdi.specs.Planning.{Counts, planned, table_after}
 use Rattle.cdi.proofs.Quiet.{impossible, same_accepted, same_refused}
+use Rattle.refusals.specs.declared.Refusal.{Refusal}
+use Rattle.refusals.specs.Refusals.{refusal}
 use Rattle.plan_stages.specs.declared.Planned.{Planned}
-use Rattle.plan_stages.specs.declared.Planned.TheVariants.{Accepted, Refused}
-use Rattle.plan_stages.specs.Outlines.{answer_of}
+use Rattle.plan_stages.specs.Outlines.{sizes, answer_of}
 
-refused_alike : {n p m q : ℕ} → fault n p ≡ fault m q → Refused n p ≡ Refused m q
-refused_alike e = ap (λ (f : Fault). Refused f.number f.place) e
-
-answer_alike : (r q : Planned) → answer_of r ≡ answer_of q → r ≡ q
+answer_alike : (r q : Result Planned Refusal) → answer_of r ≡ answer_of q → r ≡ q
 unfolding answer_of
-answer_alike (Accepted n v) (Accepted m w) e = ap (λ (c : Counts). Accepted c.records c.variables) (same_accepted e)
-answer_alike (Accepted n v) (Refused m p) e = impossible (cc)
-answer_alike (Refused n p) (Accepted m w) e = impossible (cc)
-answer_alike (Refused n p) (Refused m q) e = refused_alike (same_refused e)
+answer_alike (Ok d) (Ok g) e = ap (λ (c : Counts). Ok (sizes c.records c.variables)) (same_accepted e)
+answer_alike (Ok d) (Err f) e = impossible (cc)
+answer_alike (Err f) (Ok d) e = impossible (cc)
+answer_alike (Err f) (Err g) e = ap (λ (x : Fault). Err (refusal x.number x.place)) (same_refused e)
 
 module _ (b : List ℕ) where
-  pub plan_once : (t : List ℤ) (r q : Planned) → answer_of r ≡ planned b t → answer_of q ≡ planned b t → r ≡ q
+  pub plan_once : (t : List ℤ) (r q : Result Planned Refusal) → answer_of r ≡ planned b t → answer_of q ≡ planned b t → r ≡ q
   plan_once t r q e f = answer_alike r q (e ∙ sym f)
 
   -- of plan::plan

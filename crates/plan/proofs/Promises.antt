@@ -11,6 +11,7 @@ use lib.Dec.{leb}
 use lib.IntN.{ℤ}
 use lib.ListN.{length, take, get_or}
 use lib.Seq.{take_at}
+use Rattle.std.specs.Prelude.{Result, Ok, Err}
 use Rattle.cdi.specs.Lists.{begins}
 use Rattle.cdi.specs.Faults.{fault, least, Answer, accepted, refused, ◌and_then◌}
 use Rattle.cdi.specs.Text.{content, bad_character, first_line}
@@ -27,9 +28,10 @@ use Rattle.cdi.proofs.Stages.{stages}
 use Rattle.scan.proofs.Tests.{lt_or_le}
 use Rattle.cdi.proofs.Room.{fits, fits_table, refuses_table, short_table}
 use Rattle.cdi.proofs.Promises.{table_is_plan, table_locates, nth_is, nth_none}
+use Rattle.refusals.specs.declared.Refusal.{Refusal}
+use Rattle.refusals.specs.Refusals.{refusal}
 use Rattle.plan_stages.specs.declared.Planned.{Planned}
-use Rattle.plan_stages.specs.declared.Planned.TheVariants.{Accepted, Refused}
-use Rattle.plan_stages.specs.Outlines.{answer_of}
+use Rattle.plan_stages.specs.Outlines.{sizes, answer_of}
 
 -- ── accepted exactly where no stage has a fault ──
 
@@ -74,7 +76,7 @@ module _ (b : List ℕ) (t : List ℤ) where
     pub records : n ≡ records_of (told text)
     pub variables : v ≡ total (told text)
 
-  module _ {r : Planned} (a : answer_of r ≡ planned b t) {n v : ℕ} (e : r ≡ Accepted n v) where
+  module _ {r : Result Planned Refusal} (a : answer_of r ≡ planned b t) {n v : ℕ} (e : r ≡ Ok (sizes n v)) where
     -- an accepted text has no fault
     pub accepted_faultless : Told n v
     unfolding answer_of planned room counts_of
@@ -135,7 +137,7 @@ module _ (b : List ℕ) (t : List ℤ) where
   -- ── a refusal ──
 
   -- A refusal leaves the table as it was.
-  pub refusal_keeps : {r : Planned} {n p : ℕ} {u : List ℤ} → answer_of r ≡ planned b t → r ≡ Refused n p → u ≡ table_after b t → u ≡ t
+  pub refusal_keeps : {r : Result Planned Refusal} {n p : ℕ} {u : List ℤ} → answer_of r ≡ planned b t → r ≡ Err (refusal n p) → u ≡ table_after b t → u ≡ t
   unfolding answer_of planned
   refusal_keeps {r} {n} {p} {u} a e w = w ∙ by (described b) refl (sym a ∙ ap answer_of e)
     where

@@ -3,105 +3,70 @@
 // that likely fits it; where it has more records, it is planned again with more rows.
 #![tactic(auto)]
 
-ghost use Rattle.std.specs.Prelude.{◌≡◌, ◌≤◌, length};
+ghost use Rattle.std.specs.Prelude.{◌≡◌, ◌%◌, ◌≤◌, length, IsSome, MatchOption};
 ghost use Rattle.cdi.specs.Planning.{planned, table_after};
 ghost use Rattle.plan_stages.specs.Outlines.{answer_of, of_markup, planned_by, after_by};
 
-use plan_opening::{Opened, open_text};
+use plan_opening::open_text;
 use plan_outline::outline;
 use plan_stages::Planned;
 use plan_table::{FEW, MANY, MORE, has_room, put};
-use terms::{FIELDS, TEXT_LIMIT};
+use refusals::Refusal;
 
 // Content up to these lengths seldom has more records.
 const SHORT: usize = 4096;
 
 const LONGER: usize = 32768;
 
-// Stages 4 to 13 of content that begins with the first line, with rows for 4,096 records. `again` is 0 at each call: a function that calls itself isn't
-// compiled into its callers, so that their frames don't hold its rows.
-fn plan_many(content: &[u8], table: &mut [i64], again: usize) -> Planned
-    requires { (22 ≤ length content.now) × (length content.now ≤ 65535) }
-    ensures answer { result ≡ planned_by (of_markup content.now) (length table.old) }
-    ensures after { table.new ≡ after_by (of_markup content.now) table.old }
+// Stages 4 to 13 of content that begins with the first line, with rows of this length; nothing where these are too few. It isn't compiled into its
+// callers, so that their frames don't hold its rows.
+#[inline(never)]
+fn plan_in<const LENGTH: usize>(
+    content: &[u8],
+    table: &mut [i64],
+) -> Option<Result<Planned, Refusal>>
+    requires { (22 ≤ length content.now) × (length content.now ≤ 65535) × (LENGTH % 8 ≡ 0) × (LENGTH ≤ 32768) }
+    ensures told { MatchOption result (table.new ≡ table.old) (λ r. (r ≡ planned_by (of_markup content.now) (length table.old)) × (table.new ≡ after_by (of_markup content.now) table.old)) }
+    ensures room { 32768 ≤ LENGTH → IsSome result }
 {
-    if 0 < again {
-        return plan_many(content, table, again - 1);
-    }
-    let mut rows = [0i64; FIELDS * MANY];
-    let told = outline(content, &mut rows);
-    match told {
-        Planned::Refused { number, place } => Planned::Refused { number, place },
-        Planned::Accepted { records, variables } => put(&rows, records, variables, table),
-    }
-}
-
-// The same with rows for 1,024 records, and with more where these are too few.
-fn plan_more(content: &[u8], table: &mut [i64], again: usize) -> Planned
-    requires { (22 ≤ length content.now) × (length content.now ≤ 65535) }
-    ensures answer { result ≡ planned_by (of_markup content.now) (length table.old) }
-    ensures after { table.new ≡ after_by (of_markup content.now) table.old }
-{
-    if 0 < again {
-        return plan_more(content, table, again - 1);
-    }
-    let mut rows = [0i64; FIELDS * MORE];
-    let told = outline(content, &mut rows);
-    match told {
-        Planned::Refused { number, place } => Planned::Refused { number, place },
-        Planned::Accepted { records, variables } => {
-            if has_room(&rows, records) {
-                return put(&rows, records, variables, table);
+    let mut rows = [0i64; LENGTH];
+    match outline(content, &mut rows) {
+        Ok(found) => {
+            if has_room(&rows, found.records) {
+                Some(put(&rows, found, table))
+            } else {
+                None
             }
-            plan_many(content, table, again)
         }
+        Err(refusal) => Some(Err(refusal)),
     }
 }
 
-// The same with rows for 128 records, and with more where these are too few.
-fn plan_few(content: &[u8], table: &mut [i64], again: usize) -> Planned
+// Stages 4 to 13, with rows by the content's length, and with more where these are too few.
+fn plan_content(content: &[u8], table: &mut [i64]) -> Result<Planned, Refusal>
     requires { (22 ≤ length content.now) × (length content.now ≤ 65535) }
     ensures answer { result ≡ planned_by (of_markup content.now) (length table.old) }
     ensures after { table.new ≡ after_by (of_markup content.now) table.old }
 {
-    let mut rows = [0i64; FIELDS * FEW];
-    let told = outline(content, &mut rows);
-    match told {
-        Planned::Refused { number, place } => Planned::Refused { number, place },
-        Planned::Accepted { records, variables } => {
-            if has_room(&rows, records) {
-                return put(&rows, records, variables, table);
-            }
-            plan_more(content, table, again)
-        }
+    if content.len() <= SHORT
+        && let Some(told) = plan_in::<FEW>(content, table)
+    {
+        return told;
     }
-}
-
-// Stages 4 to 13, with rows by the content's length.
-fn plan_content(content: &[u8], table: &mut [i64]) -> Planned
-    requires { (22 ≤ length content.now) × (length content.now ≤ 65535) }
-    ensures answer { result ≡ planned_by (of_markup content.now) (length table.old) }
-    ensures after { table.new ≡ after_by (of_markup content.now) table.old }
-{
-    let again = content.len() / TEXT_LIMIT;
-    if content.len() <= SHORT {
-        return plan_few(content, table, again);
+    if content.len() <= LONGER
+        && let Some(told) = plan_in::<MORE>(content, table)
+    {
+        return told;
     }
-    if content.len() <= LONGER {
-        return plan_more(content, table, again);
-    }
-    plan_many(content, table, again)
+    plan_in::<MANY>(content, table).unwrap()
 }
 
 // The plan of a text: its records stand at the front of the table and the rest of it is unchanged, or it is refused and the whole table is
 // unchanged.
-pub fn plan(text: &[u8], table: &mut [i64]) -> Planned
+pub fn plan(text: &[u8], table: &mut [i64]) -> Result<Planned, Refusal>
     ensures answer { answer_of result ≡ planned text.now table.old }
     ensures after { table.new ≡ table_after text.now table.old }
 {
-    let begun = open_text(text);
-    match begun {
-        Opened::Refused { number, place } => Planned::Refused { number, place },
-        Opened::Ends(end) => plan_content(&text[0..end], table),
-    }
+    let end = open_text(text)?;
+    plan_content(&text[0..end], table)
 }

@@ -11,6 +11,7 @@ use lib.Dec.{leb}
 use lib.IntN.{ℤ, pos}
 use lib.ListN.{length, take, replicate, length-append, length-replicate}
 use lib.Seq.{sets, sets-eq, take_at, take-append_seam}
+use Rattle.std.specs.Prelude.{Result, Ok, Err}
 use Rattle.cdi.specs.Faults.{Fault, fault, least, Answer, accepted, refused, ◌and_then◌}
 use Rattle.cdi.specs.Tree.{Nodes}
 use Rattle.cdi.specs.Rules.{element_faults}
@@ -36,13 +37,14 @@ use Rattle.parse_sums.specs.Sums.{at_first}
 use Rattle.parse_sums.specs.Folding.{Folded, folded, fold_nodes}
 use Rattle.parse_sums.proofs.Splitting.{judge_alone, tally_alone, table_alone, root_alone}
 use Rattle.parse_sums.proofs.Shorter.{front, fold_front}
+use Rattle.refusals.specs.declared.Refusal.{Refusal}
+use Rattle.refusals.specs.Refusals.{refusal}
 use Rattle.plan_stages.specs.declared.Planned.{Planned}
-use Rattle.plan_stages.specs.declared.Planned.TheVariants.{Accepted, Refused}
-use Rattle.plan_stages.specs.Outlines.{Outline, outline, outlined, of_tree, in_room, said_of, counted_by, addressed_by, ruled_by, settled_by}
+use Rattle.plan_stages.specs.Outlines.{Outline, outline, outlined, sizes, of_tree, in_room, said_of, counted_by, addressed_by, ruled_by, settled_by}
 use Rattle.plan_stages.proofs.Settling.{few_enough, too_many}
 
 -- stages 8 to 12 of a state at the end
-abbrev pub settled_of : State → Planned
+abbrev pub settled_of : State → Result Planned Refusal
 settled_of st = settled_by st.judge.least st.tally.leaves st.tally.records st.tally.total st.root
 
 -- rows that were written from the front stand in front
@@ -83,7 +85,7 @@ module _ (t : List ℤ) (u : Nodes) (st : State) (t' : List ℤ) (q : folded st 
   abbrev told : Description
   told = describe u u
 
-  abbrev last : Planned
+  abbrev last : Result Planned Refusal
   last = counted_by st.tally.records st.tally.total st.root
 
   least_is : J.as_fault st.judge.least ≡ least (element_faults u)
@@ -119,7 +121,7 @@ module _ (t : List ℤ) (u : Nodes) (st : State) (t' : List ℤ) (q : folded st 
             ap (λ (x : List ℤ). take (8 * st.tally.records) x) (table_is ∙ table_tallied t u h k m)
             ∙ in_front t (table_of told.segments) (length_table told.segments ∙ ap (λ n. 8 * n) (sym records_are)) (omega arith)
 
-        enough : st.tally.total ≤ 1000000 → said_of (Accepted st.tally.records st.tally.total) t' ≡ (counting told and_then outlined)
+        enough : st.tally.total ≤ 1000000 → said_of (Ok (sizes st.tally.records st.tally.total)) t' ≡ (counting told and_then outlined)
         unfolding said_of
         enough m =
             let l : total told.segments ≤ 1000000 = omega (arith, total_is) in
@@ -129,7 +131,7 @@ module _ (t : List ℤ) (u : Nodes) (st : State) (t' : List ℤ) (q : folded st 
             ∙ ap (λ r. accepted (outline (records_of told.segments) (total told.segments) r)) (rows_are l)
             ∙ sym (counts told (le-leb _ _ l))
 
-        many : 1000000 < st.tally.total → said_of (Refused 12 st.root) t' ≡ (counting told and_then outlined)
+        many : 1000000 < st.tally.total → said_of (Err (refusal 12 st.root)) t' ≡ (counting told and_then outlined)
         unfolding said_of
         many m =
             let l : 1000000 < total told.segments = omega (arith, total_is) in
@@ -167,10 +169,10 @@ take_swap (suc m) zero t = refl
 take_swap (suc m) (suc n) [] = refl
 take_swap (suc m) (suc n) (x ∷ t) = ap (λ (r : List ℤ). x ∷ r) (take_swap m n t)
 
-said_front : (l : ℕ) (r : Planned) (t : List ℤ) → said_of r (take l t) ≡ (said_of r t and_then in_room l)
+said_front : (l : ℕ) (r : Result Planned Refusal) (t : List ℤ) → said_of r (take l t) ≡ (said_of r t and_then in_room l)
 unfolding said_of in_room
-said_front l (Accepted n v) t = ap (λ x. accepted (outline n v x)) (take_swap (8 * n) l t)
-said_front l (Refused n p) t = refl
+said_front l (Ok d) t = ap (λ x. accepted (outline d.records d.variables x)) (take_swap (8 * d.records) l t)
+said_front l (Err r) t = refl
 
 -- The state at the end settles stages 8 to 12, and the table holds the rows for which it had room: it is the front of a table with room for all.
 pub settles : (t : List ℤ) (u : Nodes) (st : State) (t' : List ℤ) → folded st t' ≡ fold_nodes at_first t u → st.tally.records ≤ 4096 → said_of (settled_of st) t' ≡ (of_tree u and_then in_room (length t))

@@ -1,30 +1,33 @@
 -- Stages 8 to 12, one law for each way through the code.
-use mathlib.Core.Path.{◌≡◌, ap, ◌∙◌}
+use mathlib.Core.Path.{◌≡◌, refl}
 use Prim.Native.Nat.{ℕ, ◌/◌, ◌%◌, ◌≤◌, ◌<◌}
 use borrow.Author.Rules.{rules}
 use borrow.Author.Tests.{le-leb, lt-leb, eq-eqb, ne_eqb}
+use Rattle.std.specs.Prelude.{Result, Ok, Err}
 use Rattle.keys.specs.Keys.{number_of}
 use Rattle.keys.proofs.Keying.{no_fault, a_fault}
 use Rattle.rules_judge.specs.Judging.{to_least}
 use Rattle.rules_judge.specs.declared.Least.{Least}
+use Rattle.rules_judge.specs.declared.Least.TheVariants.{Nothing, Is}
 use Rattle.tally_tag.specs.declared.Leaves.{Leaves}
+use Rattle.tally_tag.specs.declared.Leaves.TheVariants.{Never, At}
 use Rattle.judges_state.specs.Decoded.{least_in}
 use Rattle.tallies_state.specs.Flat.{leaves_of}
-use Rattle.plan_stages.specs.declared.Planned.{Planned}
-use Rattle.plan_stages.specs.declared.Planned.TheVariants.{Accepted, Refused}
-use Rattle.plan_stages.specs.Outlines.{counted_by, addressed_by, ruled_by, settled_by}
+use Rattle.refusals.specs.declared.Refusal.{Refusal}
+use Rattle.refusals.specs.Refusals.{refusal}
+use Rattle.plan_stages.specs.Outlines.{sizes, counted_by, addressed_by, ruled_by}
 
 module _ (n v root : ℕ) where
-  pub few_enough : v ≤ 1000000 → Accepted n v ≡ counted_by n v root
+  pub few_enough : v ≤ 1000000 → Ok (sizes n v) ≡ counted_by n v root
   unfolding counted_by
   few_enough h = rw (le-leb v 1000000 h)
 
-  pub too_many : 1000000 < v → Refused 12 root ≡ counted_by n v root
+  pub too_many : 1000000 < v → Err (refusal 12 root) ≡ counted_by n v root
   unfolding counted_by
   too_many h = rw (lt-leb v 1000000 h)
 
-module _ (r : Planned) where
-  pub leaves_at : (p : ℕ) → (p ≡ 18446744073709551615 → ⊥) → Refused 11 p ≡ addressed_by (leaves_of p) r
+module _ {A : Type 0} (r : Result A Refusal) where
+  pub leaves_at : (p : ℕ) → (p ≡ 18446744073709551615 → ⊥) → Err (refusal 11 p) ≡ addressed_by (leaves_of p) r
   unfolding addressed_by leaves_of
   leaves_at p e = rw (ne_eqb p 18446744073709551615 e)
 
@@ -32,7 +35,7 @@ module _ (r : Planned) where
   unfolding addressed_by leaves_of
   leaves_never p e = rw (eq-eqb p 18446744073709551615 e)
 
-  pub faulty : (k : ℕ) {n : ℕ} → (k ≡ 18446744073709551615 → ⊥) → n ≡ number_of (k % 128) → Refused n (k / 128) ≡ ruled_by (least_in k) r
+  pub faulty : (k : ℕ) {n : ℕ} → (k ≡ 18446744073709551615 → ⊥) → n ≡ number_of (k % 128) → Err (refusal n (k / 128)) ≡ ruled_by (least_in k) r
   unfolding ruled_by least_in to_least
   faulty k e f = rw (a_fault k e, f)
 
@@ -40,8 +43,28 @@ module _ (r : Planned) where
   unfolding ruled_by least_in to_least
   faultless k e = rw (no_fault k e)
 
-pub in_order : (l : Least) (m : Leaves) (n v root : ℕ) {a b c : Planned} → a ≡ counted_by n v root → b ≡ addressed_by m a → c ≡ ruled_by l b → c ≡ settled_by l m n v root
-unfolding settled_by
-in_order l m n v root e f g = g ∙ ap (ruled_by l) (f ∙ ap (addressed_by m) e)
+-- a stage before the last one: its refusal is the answer, and without one the next stage answers
+module _ {A : Type 0} (next : Result A Refusal) where
+  pub rules_refuse : {r : Refusal} (l : Least) → Err r ≡ ruled_by l (Ok (tt {0})) → Err r ≡ ruled_by l next
+  unfolding ruled_by
+  rules_refuse (Is f) e = cc
+  rules_refuse Nothing e = absurd (cc)
 
-pub ruleset settling = (few_enough, too_many, leaves_at, leaves_never, faulty, faultless, in_order, rules)
+  pub rules_pass : {y : Unit {0}} (l : Least) → Ok y ≡ ruled_by l (Ok (tt {0})) → next ≡ ruled_by l next
+  unfolding ruled_by
+  rules_pass (Is f) e = absurd (cc)
+  rules_pass Nothing e = refl
+
+  pub addresses_refuse : {r : Refusal} (m : Leaves) → Err r ≡ addressed_by m (Ok (tt {0})) → Err r ≡ addressed_by m next
+  unfolding addressed_by
+  addresses_refuse (At p) e = cc
+  addresses_refuse Never e = absurd (cc)
+
+  pub addresses_pass : {y : Unit {0}} (m : Leaves) → Ok y ≡ addressed_by m (Ok (tt {0})) → next ≡ addressed_by m next
+  unfolding addressed_by
+  addresses_pass (At p) e = absurd (cc)
+  addresses_pass Never e = refl
+
+pub ruleset stages_passed = (rules_refuse, rules_pass, addresses_refuse, addresses_pass)
+
+pub ruleset settling = (few_enough, too_many, leaves_at, leaves_never, faulty, faultless, rules)

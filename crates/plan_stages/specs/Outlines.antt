@@ -1,6 +1,6 @@
 -- What the planner knows of a text before it looks at the caller's table, and what its answers mean.
-use Rattle.std.specs.Prelude.{List, cond, ℕ, ◌*◌, ◌≤◌, leb, ℤ, length, take}
-use Rattle.cdi.specs.Faults.{fault, Answer, accepted, refused, ◌and_then◌}
+use Rattle.std.specs.Prelude.{List, cond, ℕ, ◌*◌, ◌≤◌, leb, ℤ, length, take, Result, Ok, Err}
+use Rattle.cdi.specs.Faults.{Answer, accepted, refused, ◌and_then◌}
 use Rattle.cdi.specs.Tree.{Nodes}
 use Rattle.cdi.specs.Walk.{total}
 use Rattle.cdi.specs.Table.{table_of, records_of}
@@ -9,8 +9,9 @@ use Rattle.rules_judge.specs.declared.Least.{Least}
 use Rattle.rules_judge.specs.declared.Least.TheVariants.{Nothing, Is}
 use Rattle.tally_tag.specs.declared.Leaves.{Leaves}
 use Rattle.tally_tag.specs.declared.Leaves.TheVariants.{Never, At}
+use Rattle.refusals.specs.declared.Refusal.{Refusal}
+use Rattle.refusals.specs.Refusals.{refusal, fault_of}
 use Rattle.plan_stages.specs.declared.Planned.{Planned}
-use Rattle.plan_stages.specs.declared.Planned.TheVariants.{Accepted, Refused}
 
 -- ── what a text comes to ──
 
@@ -44,47 +45,52 @@ in_room l o = accepted (outline o.records o.variables (take l o.rows))
 
 -- ── what the code says ──
 
+-- so many records and variables
+abbrev pub sizes : ℕ → ℕ → Planned
+sizes n v = record { records = n; variables = v }
+
 -- an answer, by the rows that were filled with it
-unfoldable pub said_of : Planned → List ℤ → Answer Outline
-said_of (Accepted n v) t = accepted (outline n v (take (8 * n) t))
-said_of (Refused n p) t = refused (fault n p)
+unfoldable pub said_of : Result Planned Refusal → List ℤ → Answer Outline
+said_of (Ok d) t = accepted (outline d.records d.variables (take (8 * d.records) t))
+said_of (Err r) t = refused (fault_of r)
 
 -- records that are counted are at most 4,096
-unfoldable pub Few : Planned → Type 0
-Few (Accepted n v) = n ≤ 4096
-Few (Refused n p) = Unit
+unfoldable pub Few : Result Planned Refusal → Type 0
+Few (Ok d) = d.records ≤ 4096
+Few (Err r) = Unit
 
 -- an answer
-unfoldable pub answer_of : Planned → Answer Counts
-answer_of (Accepted n v) = accepted (record { records = n; variables = v })
-answer_of (Refused n p) = refused (fault n p)
+unfoldable pub answer_of : Result Planned Refusal → Answer Counts
+answer_of (Ok d) = accepted (record { records = d.records; variables = d.variables })
+answer_of (Err r) = refused (fault_of r)
 
 -- 12
-unfoldable pub counted_by : ℕ → ℕ → ℕ → Planned
-counted_by n v root = cond (leb v 1000000) (Accepted n v) (Refused 12 root)
+unfoldable pub counted_by : ℕ → ℕ → ℕ → Result Planned Refusal
+counted_by n v root = cond (leb v 1000000) (Ok (sizes n v)) (Err (refusal 12 root))
 
--- 11, or else what comes next
-unfoldable pub addressed_by : Leaves → Planned → Planned
-addressed_by (At p) r = Refused 11 p
-addressed_by Never r = r
+module _ {A : Type 0} where
+  -- 11, or else what comes next
+  unfoldable pub addressed_by : Leaves → Result A Refusal → Result A Refusal
+  addressed_by (At p) r = Err (refusal 11 p)
+  addressed_by Never r = r
 
--- 8 to 10, or else what comes next
-unfoldable pub ruled_by : Least → Planned → Planned
-ruled_by (Is f) r = Refused f.number f.place
-ruled_by Nothing r = r
+  -- 8 to 10, or else what comes next
+  unfoldable pub ruled_by : Least → Result A Refusal → Result A Refusal
+  ruled_by (Is f) r = Err (refusal f.number f.place)
+  ruled_by Nothing r = r
 
 -- 8 to 12, by the least fault, the first segment that leaves the addresses, records, variables and the root's place
-unfoldable pub settled_by : Least → Leaves → ℕ → ℕ → ℕ → Planned
+unfoldable pub settled_by : Least → Leaves → ℕ → ℕ → ℕ → Result Planned Refusal
 settled_by l a n v root = ruled_by l (addressed_by a (counted_by n v root))
 
 -- 13, by the table's length
-unfoldable pub put_of : ℕ → ℕ → ℕ → Planned
-put_of n v l = cond (leb (8 * n) l) (Accepted n v) (Refused 13 0)
+unfoldable pub put_of : ℕ → ℕ → ℕ → Result Planned Refusal
+put_of n v l = cond (leb (8 * n) l) (Ok (sizes n v)) (Err (refusal 13 0))
 
 -- what planning says of an outline, by the table's length
-unfoldable pub planned_by : Answer Outline → ℕ → Planned
+unfoldable pub planned_by : Answer Outline → ℕ → Result Planned Refusal
 planned_by (accepted o) l = put_of o.records o.variables l
-planned_by (refused f) l = Refused f.number f.place
+planned_by (refused f) l = Err (refusal f.number f.place)
 
 -- and what stands in the table afterwards
 unfoldable pub after_by : Answer Outline → List ℤ → List ℤ

@@ -13,16 +13,16 @@ ghost use Rattle.access_writing.specs.Told.{written_of};
 ghost use Rattle.outcomes.specs.Outcomes.{number_in, place_after, value_after};
 ghost use Rattle.planksling_out.specs.Readings.{Shown, bit_of, shown_of};
 
-use access_checked::Checked;
 use access_reading::Reading;
 use access_writing::Written;
 use locate::{Absent, Variable};
 use plan_stages::Planned;
+use refusals::Refusal;
 use terms::{EVENTID, INT, STRING};
 
 // Of planning: the records and the variables.
 pub fn tell_planned(
-    told: Planned,
+    told: Result<Planned, Refusal>,
     records: &mut usize,
     variables: &mut u64,
     place: &mut usize,
@@ -33,35 +33,32 @@ pub fn tell_planned(
     ensures place_after { place.new ≡ place_after (answer_of told) place.old }
 {
     match told {
-        Planned::Accepted {
-            records: rows,
-            variables: found,
-        } => {
-            *records = rows;
-            *variables = found;
+        Ok(found) => {
+            *records = found.records;
+            *variables = found.variables;
             0
         }
-        Planned::Refused { number, place: at } => {
-            *place = at;
-            number
+        Err(refusal) => {
+            *place = refusal.place;
+            refusal.number
         }
     }
 }
 
 // Of checking a text and a table: the end of the content.
-pub fn tell_checked(told: Checked, end: &mut usize, place: &mut usize) -> usize
+pub fn tell_checked(told: Result<usize, Refusal>, end: &mut usize, place: &mut usize) -> usize
     ensures value { result ≡ number_in (checked_of told) }
     ensures end_after { end.new ≡ value_after (λ e. e) (checked_of told) end.old }
     ensures place_after { place.new ≡ place_after (checked_of told) place.old }
 {
     match told {
-        Checked::Exact(at) => {
+        Ok(at) => {
             *end = at;
             0
         }
-        Checked::Refused { number, place: at } => {
-            *place = at;
-            number
+        Err(fault) => {
+            *place = fault.place;
+            fault.number
         }
     }
 }

@@ -18,8 +18,10 @@ use Rattle.cdi.specs.Access.{Window, Value, exact, written}
 use Rattle.cdi.proofs.Quiet.{impossible}
 use Rattle.cdi.specs.Table.{same_table, table_of}
 use Rattle.cdi.proofs.PlanOf.{table_itself}
-use Rattle.plan_stages.specs.declared.Planned.TheVariants.{Accepted, Refused}
-use Rattle.plan_stages.specs.Outlines.{answer_of}
+use Rattle.std.specs.Prelude.{Result, Ok, Err}
+use Rattle.refusals.specs.declared.Refusal.{Refusal}
+use Rattle.refusals.specs.Refusals.{refusal}
+use Rattle.plan_stages.specs.Outlines.{sizes, answer_of}
 use Rattle.plan.proofs.Promises.{told, accepted_faultless}
 use Rattle.listing_fill.specs.Batch.{listing}
 use Rattle.access_kinds.specs.Told.{window_of}
@@ -65,7 +67,7 @@ not_shown f at (refused g) e = cc
 module _ (b : List ℕ) (t : List ℤ) where
   pub plan_numbered : Numbered (planned b t)
   unfolding answer_of
-  plan_numbered f e = ⊎_elim (text_positive f.number) (λ z. omega arith) (steps.refused_number b t {r = Refused f.number f.place} (sym e) refl)
+  plan_numbered f e = ⊎_elim (text_positive f.number) (λ z. omega arith) (steps.refused_number b t {r = Err (refusal f.number f.place)} (sym e) refl)
 
   pub check_numbered : Numbered (known_of b t)
   unfolding known_of
@@ -131,7 +133,7 @@ module _ (b : List ℕ) (t : List ℤ) (returned : 0 ≡ number_in (planned b t)
   unfolding value_after
   rows = records ∙ rw counted.1
 
-  answers : answer_of (Accepted c.records c.variables) ≡ planned b t
+  answers : answer_of (Ok (sizes c.records c.variables)) ≡ planned b t
   unfolding answer_of
   answers = sym counted.1
 

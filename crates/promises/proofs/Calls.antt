@@ -29,8 +29,10 @@ use Rattle.cdi.proofs.Room.{fits_table}
 use Rattle.cdi.proofs.Promises.{table_is_plan, table_decodes, table_locates, nth_is, nth_none, count_is}
 use Rattle.cdi.proofs.Back.{SixtyFour, Passed, passed, lies, good_text}
 use Rattle.plan_stages.specs.declared.Planned.{Planned}
-use Rattle.plan_stages.specs.declared.Planned.TheVariants.{Accepted}
-use Rattle.plan_stages.specs.Outlines.{answer_of}
+use Rattle.std.specs.Prelude.{Result, Ok, Err}
+use Rattle.refusals.specs.declared.Refusal.{Refusal}
+use Rattle.refusals.specs.Refusals.{refusal}
+use Rattle.plan_stages.specs.Outlines.{sizes, answer_of}
 use Rattle.plan.proofs.Promises.{told, Faultless, accepted_faultless, records_in_front}
 use Rattle.locate.specs.Answers.{told_of}
 use Rattle.std.specs.Prelude.{Result, Err}
@@ -99,7 +101,7 @@ echoed at new q Text text e r k =
     let z = k refl in
     fetch_once at new _ q (reading.Text at (at + length text) true) e (ap (λ y. accepted (record { value = string y; writable = true })) z.0) r (refl, omega arith, z.1)
 
-module _ (b : List ℕ) (t : List ℤ) {r : Planned} (answer : answer_of r ≡ planned b t) {n v : ℕ} (e : r ≡ Accepted n v) (c : List ℕ) (ends : content b ≡ some c) where
+module _ (b : List ℕ) (t : List ℤ) {r : Result Planned Refusal} (answer : answer_of r ≡ planned b t) {n v : ℕ} (e : r ≡ Ok (sizes n v)) (c : List ℕ) (ends : content b ≡ some c) where
   same_text : (accepted_faultless b t answer e).text ≡ c
   same_text = let z = (accepted_faultless b t answer e).faultless.ends in cc
 

@@ -9,12 +9,11 @@ use mathlib.Core.Logic.{◌⊎◌, ◌↔◌}
 use Prim.Native.Nat.{ℕ, ◌+◌, ◌*◌, ◌-◌, ◌/◌, ◌≤◌, ◌<◌, min}
 use lib.IntN.{ℤ}
 use lib.ListN.{length, take, drop, get_or}
+use Rattle.std.specs.Prelude.{Result, Ok, Err}
 use Rattle.promises.proofs.Terms.{Fault, fault, before, least, accepted, refused, content, Found, walk, records_of, table_of, is_plan, segments_of, locating, leaving, described, planned, table_after}
-use Rattle.promises.proofs.Terms.{Value, Setting, setting_of, first_cause, write_causes, read_from, stored, written, window_after, read, NoZero, Passed, SixtyFour, answer_of, Planned, told, Told, told_of, Result, Variable, Absent}
+use Rattle.promises.proofs.Terms.{Value, Setting, setting_of, first_cause, write_causes, read_from, stored, written, window_after, read, NoZero, Passed, SixtyFour, answer_of, Planned, Refusal, refusal, sizes, told, Told, told_of, Variable, Absent}
 use Rattle.promises.proofs.Terms.{batch, listed, wanted_of, Wanted, window_of, written_of, Written, reading_of, ReadAt, Reading, start_for}
 use Rattle.promises.proofs.Terms.{MarkupNumber, RuleNumber, TextNumber, Among, of_markup, of_elements, Counted, Cause, AccessCause, variable_at, numbers_at, echo}
-use Rattle.plan_stages.specs.declared.Planned.TheVariants.{Accepted, Refused}
-use Rattle.std.specs.Prelude.{Err}
 use Rattle.locate.specs.declared.Absent.TheVariants.{NotAPlan, NoVariable}
 use Rattle.access_writing.specs.declared.Written.TheVariants as write
 use Rattle.access_reading.specs.declared.Reading.TheVariants as reading
@@ -27,21 +26,21 @@ use Rattle.promises.proofs.Calls as calls
 -- ── 1: accepted, or refused with number and place for exactly the stated cause; a refusal changes nothing; bytes after the first zero change no answer ──
 
 -- `plan` on any text b and any table t: r is the answer, u the table afterwards
-module _ (b : List ℕ) (t : List ℤ) {r : Planned} {u : List ℤ} (answer : answer_of r ≡ planned b t) (after : u ≡ table_after b t) where
+module _ (b : List ℕ) (t : List ℤ) {r : Result Planned Refusal} {u : List ℤ} (answer : answer_of r ≡ planned b t) (after : u ≡ table_after b t) where
   -- It is refused exactly where there is a cause: the fault of the earliest stage that has one.
-  pub plan_refused : {m p : ℕ} → r ≡ Refused m p ↔ Cause b t m p
+  pub plan_refused : {m p : ℕ} → r ≡ Err (refusal m p) ↔ Cause b t m p
   plan_refused = steps.refused_exactly b t answer
 
   -- A refusal has one of the numbers from 1 to 7, from 81 to 88, and from 9 to 13.
-  pub plan_number : {m p : ℕ} → r ≡ Refused m p → TextNumber m ⊎ (m ≡ 13)
+  pub plan_number : {m p : ℕ} → r ≡ Err (refusal m p) → TextNumber m ⊎ (m ≡ 13)
   plan_number e = steps.refused_number b t answer e
 
   -- 13 comes exactly where stages 1 to 12 have no fault and 8 times the records exceed the table's length.
-  pub plan_short : {p : ℕ} → r ≡ Refused 13 p ↔ ((c : List ℕ) × Counted b c × (length t < 8 * records_of (told c)) × (p ≡ 0))
+  pub plan_short : {p : ℕ} → r ≡ Err (refusal 13 p) ↔ ((c : List ℕ) × Counted b c × (length t < 8 * records_of (told c)) × (p ≡ 0))
   plan_short = steps.short_exactly b t answer
 
   -- A refusal leaves the table as it was.
-  pub plan_refusal_keeps : {m p : ℕ} → r ≡ Refused m p → u ≡ t
+  pub plan_refusal_keeps : {m p : ℕ} → r ≡ Err (refusal m p) → u ≡ t
   plan_refusal_keeps e = planning.refusal_keeps b t answer e after
 
 -- Stages 1 to 12 have their numbers: the markup 4 to 7, the rules of the elements 81 to 88, 9 and 10, the addresses 11. 8 is none of them.
@@ -87,7 +86,7 @@ module _ (b : List ℕ) (t : List ℤ) (n space first : ℕ) (bytes : List ℕ) 
 
 -- Two texts that agree up to and including a first zero, wherever it stands: planning, writing and reading answer the same and leave the same.
 module _ (c x y : List ℕ) (h : NoZero c) (t : List ℤ) where
-  pub planning_alike : (r q : Planned) (u o : List ℤ) → answer_of r ≡ planned (c ++ 0 ∷ x) t → answer_of q ≡ planned (c ++ 0 ∷ y) t
+  pub planning_alike : (r q : Result Planned Refusal) (u o : List ℤ) → answer_of r ≡ planned (c ++ 0 ∷ x) t → answer_of q ≡ planned (c ++ 0 ∷ y) t
       → u ≡ table_after (c ++ 0 ∷ x) t → o ≡ table_after (c ++ 0 ∷ y) t → (r ≡ q) × (u ≡ o)
   planning_alike = steps.plans_alike _ _ (steps.described_same c h x y) t
 
@@ -102,13 +101,13 @@ module _ (c x y : List ℕ) (h : NoZero c) (t : List ℤ) where
   reading_alike = steps.reads_alike _ _ (steps.described_same c h x y) t
 
   -- A first zero at 65,536 or later is too late: 1, at 65,536.
-  pub zero_too_late : 65535 < length c → (r : Planned) → answer_of r ≡ planned (c ++ 0 ∷ x) t → r ≡ Refused 1 65536
+  pub zero_too_late : 65535 < length c → (r : Result Planned Refusal) → answer_of r ≡ planned (c ++ 0 ∷ x) t → r ≡ Err (refusal 1 65536)
   zero_too_late l r e = steps.late_answer c h l x t r e
 
 -- ── 2: with room, accepted exactly when the rules are met; an accepted write stores the value, changes no other byte and reads back ──
 
 -- A text is accepted exactly when no stage has a fault and the table has room, and then with its counts.
-pub plan_accepted : (b : List ℕ) (t : List ℤ) (r : Planned) → answer_of r ≡ planned b t → {n v : ℕ} → r ≡ Accepted n v ↔ Told b t n v
+pub plan_accepted : (b : List ℕ) (t : List ℤ) (r : Result Planned Refusal) → answer_of r ≡ planned b t → {n v : ℕ} → r ≡ Ok (sizes n v) ↔ Told b t n v
 plan_accepted b t r answer = steps.accepted_exactly b t answer
 
 -- A write is accepted exactly when there is such a variable and the value passes: kind, bounds, text, map, window.
@@ -116,8 +115,8 @@ pub write_accepted : (b : List ℕ) (t : List ℤ) (n space first : ℕ) (bytes 
     → s ≡ write.Accepted ↔ ((x : Setting) × (setting_of b t n ≡ accepted x) × Passed (window_of space first bytes) v x)
 write_accepted b t n space first bytes v s said = accesses.write_accepted_exactly b t n (window_of space first bytes) v s said
 
--- planning with the answer Accepted n v: c is the content, and `plan` the first 8 times n numbers of the table afterwards
-module _ (b : List ℕ) (t : List ℤ) {r : Planned} {u : List ℤ} (answer : answer_of r ≡ planned b t) (after : u ≡ table_after b t) {n v : ℕ} (e : r ≡ Accepted n v) (c : List ℕ) (ends : content b ≡ some c) where
+-- planning that accepts with n records and v variables: c is the content, and `plan` the first 8 times n numbers of the table afterwards
+module _ (b : List ℕ) (t : List ℤ) {r : Result Planned Refusal} {u : List ℤ} (answer : answer_of r ≡ planned b t) (after : u ≡ table_after b t) {n v : ℕ} (e : r ≡ Ok (sizes n v)) (c : List ℕ) (ends : content b ≡ some c) where
   abbrev plan : List ℤ
   plan = take (8 * n) u
 

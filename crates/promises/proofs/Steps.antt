@@ -26,9 +26,11 @@ use Rattle.cdi.proofs.Room.{refuses}
 use Rattle.cdi.proofs.Zero.{NoZero, described_alike}
 use Rattle.access.specs.Told.{start_for}
 use Rattle.plan.proofs.Promises.{told, Faultless, Told, faultless_accepted, accepted_faultless}
-use Rattle.plan_stages.specs.Outlines.{answer_of}
+use Rattle.std.specs.Prelude.{Result, Ok, Err}
+use Rattle.refusals.specs.declared.Refusal.{Refusal}
+use Rattle.refusals.specs.Refusals.{refusal}
+use Rattle.plan_stages.specs.Outlines.{sizes, answer_of}
 use Rattle.plan_stages.specs.declared.Planned.{Planned}
-use Rattle.plan_stages.specs.declared.Planned.TheVariants.{Accepted, Refused}
 use Rattle.plan.proofs.Once.{plan_once}
 use Rattle.access_kinds.specs.Told.{window_of}
 use Rattle.access_writing.specs.Told.{written_of}
@@ -160,7 +162,7 @@ module _ (a b : List ℕ) (e : described a ≡ described b) where
   start_same t n first = rw (setting_same t n, start_for)
 
   -- on the code's answers
-  pub plans_alike : (t : List ℤ) (r q : Planned) (u o : List ℤ) → answer_of r ≡ planned a t → answer_of q ≡ planned b t → u ≡ table_after a t → o ≡ table_after b t → (r ≡ q) × (u ≡ o)
+  pub plans_alike : (t : List ℤ) (r q : Result Planned Refusal) (u o : List ℤ) → answer_of r ≡ planned a t → answer_of q ≡ planned b t → u ≡ table_after a t → o ≡ table_after b t → (r ≡ q) × (u ≡ o)
   plans_alike t r q u o f g i j = (plan_once b t r q (f ∙ planned_same t) g, i ∙ table_same t ∙ sym j)
 
   module _ (t : List ℤ) (n space first : ℕ) (bytes : List ℕ) where
@@ -291,36 +293,36 @@ cause_of b t {m} {p} e = by (verdict b t)
 
 -- ── the code's answers of planning ──
 
-pub late_answer : (c : List ℕ) → NoZero c → 65535 < length c → (x : List ℕ) (t : List ℤ) (r : Planned) → answer_of r ≡ planned (c ++ 0 ∷ x) t → r ≡ Refused 1 65536
+pub late_answer : (c : List ℕ) → NoZero c → 65535 < length c → (x : List ℕ) (t : List ℤ) (r : Result Planned Refusal) → answer_of r ≡ planned (c ++ 0 ∷ x) t → r ≡ Err (refusal 1 65536)
 unfolding answer_of
-late_answer c h l x t r e = plan_once (c ++ 0 ∷ x) t r (Refused 1 65536) e (sym (late_planned c h l x t))
+late_answer c h l x t r e = plan_once (c ++ 0 ∷ x) t r (Err (refusal 1 65536)) e (sym (late_planned c h l x t))
 
-module _ (b : List ℕ) (t : List ℤ) {r : Planned} (answer : answer_of r ≡ planned b t) where
-  refused_cause : {m p : ℕ} → r ≡ Refused m p → Cause b t m p
+module _ (b : List ℕ) (t : List ℤ) {r : Result Planned Refusal} (answer : answer_of r ≡ planned b t) where
+  refused_cause : {m p : ℕ} → r ≡ Err (refusal m p) → Cause b t m p
   unfolding answer_of
   refused_cause e = cause_of b t (sym answer ∙ ap answer_of e)
 
-  cause_answer : {m p : ℕ} → Cause b t m p → r ≡ Refused m p
+  cause_answer : {m p : ℕ} → Cause b t m p → r ≡ Err (refusal m p)
   unfolding answer_of
-  cause_answer {m} {p} k = plan_once b t r (Refused m p) answer (sym (cause_refused b t k))
+  cause_answer {m} {p} k = plan_once b t r (Err (refusal m p)) answer (sym (cause_refused b t k))
 
-  pub refused_exactly : {m p : ℕ} → r ≡ Refused m p ↔ Cause b t m p
+  pub refused_exactly : {m p : ℕ} → r ≡ Err (refusal m p) ↔ Cause b t m p
   refused_exactly = (refused_cause, cause_answer)
 
-  pub refused_number : {m p : ℕ} → r ≡ Refused m p → TextNumber m ⊎ (m ≡ 13)
+  pub refused_number : {m p : ℕ} → r ≡ Err (refusal m p) → TextNumber m ⊎ (m ≡ 13)
   refused_number e = cause_number (refused_cause e)
 
-  pub short_exactly : {p : ℕ} → r ≡ Refused 13 p ↔ ((c : List ℕ) × Counted b c × (length t < 8 * records_of (told c)) × (p ≡ 0))
+  pub short_exactly : {p : ℕ} → r ≡ Err (refusal 13 p) ↔ ((c : List ℕ) × Counted b c × (length t < 8 * records_of (told c)) × (p ≡ 0))
   short_exactly = ((λ e. thirteen (refused_cause e) refl), (λ x. cause_answer (why.room x.1 x.2 refl x.3)))
 
-  faultless_answer : (c : List ℕ) → Faultless b t c → r ≡ Accepted (records_of (told c)) (total (told c))
+  faultless_answer : (c : List ℕ) → Faultless b t c → r ≡ Ok (sizes (records_of (told c)) (total (told c)))
   unfolding answer_of counts_of
   faultless_answer c f = plan_once b t r _ answer (sym (faultless_accepted b t c f))
 
-  told_answer : {n v : ℕ} → Told b t n v → r ≡ Accepted n v
+  told_answer : {n v : ℕ} → Told b t n v → r ≡ Ok (sizes n v)
   told_answer x = faultless_answer x.text x.faultless ∙ sym (rw (x.records, x.variables))
 
-  pub accepted_exactly : {n v : ℕ} → r ≡ Accepted n v ↔ Told b t n v
+  pub accepted_exactly : {n v : ℕ} → r ≡ Ok (sizes n v) ↔ Told b t n v
   accepted_exactly = ((λ e. accepted_faultless b t answer e), told_answer)
 
 -- stages 1 to 12 have their numbers

@@ -28,7 +28,9 @@ pub use Rattle.cdi.specs.Planning.{leaving, described, planned, table_after}
 pub use Rattle.cdi.specs.Access.{Value, Setting, setting_of, first_cause, write_causes, read_from, stored, written, window_after, read}
 pub use Rattle.cdi.proofs.Zero.{NoZero}
 pub use Rattle.cdi.proofs.Back.{Passed, SixtyFour}
-pub use Rattle.plan_stages.specs.Outlines.{answer_of}
+pub use Rattle.refusals.specs.declared.Refusal.{Refusal}
+pub use Rattle.refusals.specs.Refusals.{refusal}
+pub use Rattle.plan_stages.specs.Outlines.{sizes, answer_of}
 pub use Rattle.plan_stages.specs.declared.Planned.{Planned}
 pub use Rattle.plan.proofs.Promises.{told, Told}
 pub use Rattle.locate.specs.Answers.{told_of}

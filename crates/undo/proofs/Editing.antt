@@ -18,8 +18,9 @@ use Rattle.access.proofs.Accessing.{not_known, checked_exact}
 use Rattle.undo_model.specs.Sessions.{State, wrote, with_edit, edited, undone_in, undone, after, answered}
 use Rattle.undo_edit.specs.Told.{outcome_of, state_of, window_left, journal_left, edited_in}
 use Rattle.undo.specs.Told.{edit_of}
-use Rattle.access_checked.specs.declared.Checked.{Checked}
-use Rattle.access_checked.specs.declared.Checked.TheVariants as checked
+use Rattle.std.specs.Prelude.{Result, Ok, Err}
+use Rattle.refusals.specs.declared.Refusal.{Refusal}
+use Rattle.refusals.specs.Refusals.{fault_of}
 use Rattle.access_kinds.specs.declared.Setting.{Setting}
 use Rattle.access_lookup.specs.declared.Lookup.{Lookup}
 use Rattle.access_lookup.specs.declared.Lookup.TheVariants.{Is, Nothing}
@@ -55,19 +56,19 @@ not_undone b t s f e = by (described b and_then exact t) e
     by (accepted d) x = impossible (cc)
     by (refused g) x = cc
 
-module _ (b : List ℕ) (t : List ℤ) {a : Checked} (e : checked_of a ≡ known_of b t) {m p : ℕ} (q : a ≡ checked.Refused m p) (session space first : ℕ) (bytes j : List ℕ) where
+module _ (b : List ℕ) (t : List ℤ) {a : Result ℕ Refusal} (e : checked_of a ≡ known_of b t) {r : Refusal} (q : a ≡ Err r) (session space first : ℕ) (bytes j : List ℕ) where
   abbrev s : State
   s = state_of session space first bytes j
 
-  unknown : known_of b t ≡ refused (fault m p)
+  unknown : known_of b t ≡ refused (fault_of r)
   unfolding checked_of
   unknown = sym e ∙ ap checked_of q
 
   module _ (n : ℕ) (v : Value) where
-    is_refused : edited b t (edit_of n v) s ≡ refused (fault m p)
-    is_refused = unedited b t n v s (not_known b t n (fault m p) unknown)
+    is_refused : edited b t (edit_of n v) s ≡ refused (fault_of r)
+    is_refused = unedited b t n v s (not_known b t n (fault_of r) unknown)
 
-    pub check_told : outcome_of (outcome.Refused m p) ≡ answered (edited b t (edit_of n v) s)
+    pub check_told : outcome_of (outcome.Refused r.number r.place) ≡ answered (edited b t (edit_of n v) s)
     check_told = told s is_refused
 
     pub check_window : bytes ≡ window_left s (edited b t (edit_of n v) s)
@@ -76,11 +77,11 @@ module _ (b : List ℕ) (t : List ℤ) {a : Checked} (e : checked_of a ≡ known
     pub check_journal : j ≡ journal_left s (edited b t (edit_of n v) s)
     check_journal = journal_kept s is_refused
 
-  pub undo_told : outcome_of (outcome.Refused m p) ≡ answered (undone b t s)
-  undo_told = told s (not_undone b t s (fault m p) unknown)
+  pub undo_told : outcome_of (outcome.Refused r.number r.place) ≡ answered (undone b t s)
+  undo_told = told s (not_undone b t s (fault_of r) unknown)
 
   pub undo_window : bytes ≡ window_left s (undone b t s)
-  undo_window = window_kept s (not_undone b t s (fault m p) unknown)
+  undo_window = window_kept s (not_undone b t s (fault_of r) unknown)
 
 pub ruleset checking_first = (checked_exact, check_told, check_window, check_journal, undo_told, undo_window, rules)
 

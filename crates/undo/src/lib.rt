@@ -12,7 +12,7 @@ ghost use Rattle.undo_model.specs.Sessions.{edited, undone, answered};
 ghost use Rattle.undo_edit.specs.Told.{outcome_of, state_of, window_left, journal_left};
 ghost use Rattle.undo.specs.Told.{edit_of};
 
-use access_checked::{Checked, check};
+use access_checked::check;
 use access_lookup::{Lookup, seek};
 use maps::Wanted;
 use undo_edit::{Outcome, edit_setting};
@@ -78,8 +78,11 @@ fn edit(
 {
     let checked = check(text, table);
     match checked {
-        Checked::Refused { number, place } => Outcome::Refused { number, place },
-        Checked::Exact(end) => edit_known(
+        Err(refusal) => Outcome::Refused {
+            number: refusal.number,
+            place: refusal.place,
+        },
+        Ok(end) => edit_known(
             text, end, table, n, space, first, window, journal, session, value, string,
         ),
     }
@@ -186,7 +189,10 @@ pub fn undo(
 {
     let checked = check(text, table);
     match checked {
-        Checked::Refused { number, place } => Outcome::Refused { number, place },
-        Checked::Exact(end) => undo_known(text, end, table, space, first, window, journal, session),
+        Err(refusal) => Outcome::Refused {
+            number: refusal.number,
+            place: refusal.place,
+        },
+        Ok(end) => undo_known(text, end, table, space, first, window, journal, session),
     }
 }

@@ -4,34 +4,34 @@ use Rattle.outcomes.specs.Outcomes.{number_in, place_after, value_after}
 use Rattle.outcomes.proofs.Telling.{number_by_law, place_by, value_by}
 use Rattle.planksling_out.proofs.tell_planned.Goals as goal
 
-pub returns-in-Accepted-clause-value : goal.returns-in-Accepted-clause-value
+pub returns-in-Ok-clause-value : goal.returns-in-Ok-clause-value
 unfolding number_in place_after value_after answer_of
-returns-in-Accepted-clause-value c = search (number_by_law answer_of, rules)
+returns-in-Ok-clause-value c = search (number_by_law answer_of, rules)
 
-pub returns-in-Accepted-clause-records_after : goal.returns-in-Accepted-clause-records_after
+pub returns-in-Ok-clause-records_after : goal.returns-in-Ok-clause-records_after
 unfolding number_in place_after value_after answer_of
-returns-in-Accepted-clause-records_after c = search (value_by answer_of, rules)
+returns-in-Ok-clause-records_after c = search (value_by answer_of, rules)
 
-pub returns-in-Accepted-clause-variables_after : goal.returns-in-Accepted-clause-variables_after
+pub returns-in-Ok-clause-variables_after : goal.returns-in-Ok-clause-variables_after
 unfolding number_in place_after value_after answer_of
-returns-in-Accepted-clause-variables_after c = search (value_by answer_of, rules)
+returns-in-Ok-clause-variables_after c = search (value_by answer_of, rules)
 
-pub returns-in-Accepted-clause-place_after : goal.returns-in-Accepted-clause-place_after
+pub returns-in-Ok-clause-place_after : goal.returns-in-Ok-clause-place_after
 unfolding number_in place_after value_after answer_of
-returns-in-Accepted-clause-place_after c = search (place_by answer_of, rules)
+returns-in-Ok-clause-place_after c = search (place_by answer_of, rules)
 
-pub returns-in-Refused-clause-value : goal.returns-in-Refused-clause-value
+pub returns-in-Err-clause-value : goal.returns-in-Err-clause-value
 unfolding number_in place_after value_after answer_of
-returns-in-Refused-clause-value c = search (number_by_law answer_of, rules)
+returns-in-Err-clause-value c = search (number_by_law answer_of, rules)
 
-pub returns-in-Refused-clause-records_after : goal.returns-in-Refused-clause-records_after
+pub returns-in-Err-clause-records_after : goal.returns-in-Err-clause-records_after
 unfolding number_in place_after value_after answer_of
-returns-in-Refused-clause-records_after c = search (value_by answer_of, rules)
+returns-in-Err-clause-records_after c = search (value_by answer_of, rules)
 
-pub returns-in-Refused-clause-variables_after : goal.returns-in-Refused-clause-variables_after
+pub returns-in-Err-clause-variables_after : goal.returns-in-Err-clause-variables_after
 unfolding number_in place_after value_after answer_of
-returns-in-Refused-clause-variables_after c = search (value_by answer_of, rules)
+returns-in-Err-clause-variables_after c = search (value_by answer_of, rules)
 
-pub returns-in-Refused-clause-place_after : goal.returns-in-Refused-clause-place_after
+pub returns-in-Err-clause-place_after : goal.returns-in-Err-clause-place_after
 unfolding number_in place_after value_after answer_of
-returns-in-Refused-clause-place_after c = search (place_by answer_of, rules)
+returns-in-Err-clause-place_after c = search (place_by answer_of, rules)
