@@ -39,7 +39,7 @@ fn keeps_bounds(content: &[u8], setting: Setting, value: Wanted) -> bool
             negative,
             magnitude,
         ),
-        _ => true,
+        Wanted::Number { .. } | Wanted::Event(_) | Wanted::Text => true,
     }
 }
 

@@ -63,18 +63,18 @@ module _ {c : List ℕ} {s : Setting} (g : Good c s) where
 -- ── 27 ──
 
 module _ (c : List ℕ) (s : Setting) where
-  pub withheld_float : s.kind ≡ 6 → true ≡ (is_float (setting_is c s) || is_mapped_event (setting_is c s))
+  pub withheld_float : s.kind ≡ 6 → eqb s.kind 6 ≡ (is_float (setting_is c s) || is_mapped_event (setting_is c s))
   unfolding is_float setting_is
-  withheld_float e = sym (rw (eq-eqb _ _ e))
+  withheld_float e = eq-eqb _ _ e ∙ sym (rw (eq-eqb _ _ e))
 
   module _ (h : s.kind ≡ 6 → ⊥) where
     pub withheld_event : s.kind ≡ 5 → {r : Bool} → r ≡ has_map (content_in c s.part) → r ≡ (is_float (setting_is c s) || is_mapped_event (setting_is c s))
     unfolding is_float is_mapped_event setting_is
     withheld_event e q = q ∙ sym (rw (ne_eqb _ _ h, eq-eqb _ _ e))
 
-    pub withheld_not : (s.kind ≡ 5 → ⊥) → false ≡ (is_float (setting_is c s) || is_mapped_event (setting_is c s))
+    pub withheld_not : (s.kind ≡ 5 → ⊥) → eqb s.kind 5 ≡ (is_float (setting_is c s) || is_mapped_event (setting_is c s))
     unfolding is_float is_mapped_event setting_is
-    withheld_not e = sym (rw (ne_eqb _ _ h, ne_eqb _ _ e))
+    withheld_not e = ne_eqb _ _ e ∙ sym (rw (ne_eqb _ _ h, ne_eqb _ _ e))
 
 pub ruleset withholding = (withheld_float, withheld_event, withheld_not, good_inside, rules)
 
