@@ -20,8 +20,14 @@ pub fn seek(text: &[u8], end: usize, table: &[i64], n: u64) -> Result<Setting, R
     ensures fits { Fits (take end text.now) result }
 {
     match find(table, n) {
-        Located::NotAPlan => Err(Refusal { number: 20, place: 0 }),
-        Located::NoVariable => Err(Refusal { number: 21, place: 0 }),
+        Located::NotAPlan => Err(Refusal {
+            number: 20,
+            place: 0,
+        }),
+        Located::NoVariable => Err(Refusal {
+            number: 21,
+            place: 0,
+        }),
         Located::Variable {
             record,
             space,

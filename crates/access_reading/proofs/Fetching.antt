@@ -33,7 +33,7 @@ use Rattle.access_kinds.specs.declared.Setting.{Setting}
 use Rattle.refusals.specs.declared.Refusal.{Refusal}
 use Rattle.refusals.specs.Refusals.{refusal}
 use Rattle.std.specs.Prelude.{Option, Some, None, Result, Ok, Err}
-use Rattle.std.specs.Option.{is_none}
+use Rattle.std.specs.Option.{is_some}
 use Rattle.access_reading.specs.declared.Reading.{Reading}
 use Rattle.access_reading.specs.declared.Reading.TheVariants as reading
 use Rattle.access_kinds.proofs.Deciding.{read_decides, inside_is, int_least, int_most, good_inside}
@@ -42,11 +42,15 @@ use Rattle.access_kinds.proofs.Owned.{own_length}
 
 -- ── any kind ──
 
+is_not : (f : Bool) {b : Bool} → b ≡ not f → not b ≡ f
+is_not true e = rw e
+is_not false e = rw e
+
 module _ {s : A.Setting} {i : Bool} (bytes own : List ℕ) (q : Result Reading Refusal) where
-  reads : (v : Value) {r : Option ℕ} → value_in s own ≡ accepted v → Decides s i v r → reading_of bytes q ≡ accepted (record { value = v; writable = is_none r }) → ReadsAs s i bytes own q
+  reads : (v : Value) {r : Option ℕ} {f : Bool} → value_in s own ≡ accepted v → Decides s i v r → is_some r ≡ not f → reading_of bytes q ≡ accepted (record { value = v; writable = f }) → ReadsAs s i bytes own q
   unfolding as_read
-  reads v {r} e x z = record {
-    of = λ w ei. z ∙ ap (λ (f : Bool). accepted (record { value = v; writable = f })) (sym (cause_accepted r) ∙ ap is_accepted (x.of w ei)) ∙ sym (rw e);
+  reads v {r} {f} e x k z = record {
+    of = λ w ei. z ∙ ap (λ (g : Bool). accepted (record { value = v; writable = g })) (sym (is_not f k) ∙ sym (cause_accepted r) ∙ ap is_accepted (x.of w ei)) ∙ sym (rw e);
   }
 
   reads_not : value_in s own ≡ refused (fault 28 0) → reading_of bytes q ≡ refused (fault 28 0) → ReadsAs s i bytes own q
@@ -76,9 +80,9 @@ module _ (c : List ℕ) (s : Setting) (i : Bool) (bytes : List ℕ) (from to : �
       int_value = rw k (ap (λ x. accepted (integer x)) (sym (f ∙ rw (own_length from to s.size bytes l h, e) refl)))
 
       pub reads_integer : {r : Option ℕ} → Decides (setting_is c s) i (wanted_of (Number w.negative w.magnitude) []) r
-          → ReadsAs (setting_is c s) i bytes own (Ok (reading.Integer w.negative w.magnitude (is_none r)))
+          → {f : Bool} → is_some r ≡ not f → ReadsAs (setting_is c s) i bytes own (Ok (reading.Integer w.negative w.magnitude f))
       unfolding wanted_of reading_of
-      reads_integer x = reads bytes own _ _ int_value x refl
+      reads_integer x k = reads bytes own _ _ int_value x k refl
 
   pub integer_plain : (w : Whole) → Plain w → (f : Bool) → ReadAt from bytes (Ok (reading.Integer w.negative w.magnitude f))
   unfolding Plain ReadAt
@@ -91,9 +95,9 @@ module _ (c : List ℕ) (s : Setting) (i : Bool) (bytes : List ℕ) (from to : �
     unfolding setting_is
     event_high g = omega (arith, own_length from to s.size bytes l h, event_size s.kind s.size g.fits.sized k)
 
-    pub reads_event : {x : ℕ} → x ≡ value_of own → {r : Option ℕ} → Decides (setting_is c s) i (wanted_of (Event x) []) r → ReadsAs (setting_is c s) i bytes own (Ok (reading.Event x (is_none r)))
+    pub reads_event : {x : ℕ} → x ≡ value_of own → {r : Option ℕ} → Decides (setting_is c s) i (wanted_of (Event x) []) r → {f : Bool} → is_some r ≡ not f → ReadsAs (setting_is c s) i bytes own (Ok (reading.Event x f))
     unfolding wanted_of reading_of value_in setting_is
-    reads_event e d = reads bytes own _ _ (rw (k, e)) d refl
+    reads_event e d n = reads bytes own _ _ (rw (k, e)) d n refl
 
   pub event_anywhere : (x : ℕ) (f : Bool) → ReadAt from bytes (Ok (reading.Event x f))
   unfolding ReadAt
@@ -132,9 +136,9 @@ module _ (c : List ℕ) (s : Setting) (i : Bool) (bytes : List ℕ) (from to : �
         unfolding reading_of
         not_text w = reads_not bytes own _ (text_is f ∙ rw w) refl
 
-        pub reads_text : u ≡ true → {r : Option ℕ} → Decides (setting_is c s) i (wanted_of Text (take (from + n - from) (drop from bytes))) r → ReadsAs (setting_is c s) i bytes own (Ok (reading.Text from (from + n) (is_none r)))
+        pub reads_text : u ≡ true → {r : Option ℕ} → Decides (setting_is c s) i (wanted_of Text (take (from + n - from) (drop from bytes))) r → {g : Bool} → is_some r ≡ not g → ReadsAs (setting_is c s) i bytes own (Ok (reading.Text from (from + n) g))
         unfolding wanted_of reading_of
-        reads_text w x = reads bytes own _ _ (text_is f ∙ rw w) x refl
+        reads_text w x y = reads bytes own _ _ (text_is f ∙ rw w) x y refl
 
         pub text_at : (g : Bool) → ReadAt from bytes (Ok (reading.Text from (from + n) g))
         unfolding ReadAt
@@ -172,8 +176,8 @@ module _ (c : List ℕ) (s : Setting) (space first : ℕ) (bytes : List ℕ) {i 
 
   pub not_fetched : {n : ℕ} → r ≡ Some n → reading_of bytes (Err (refusal n 0)) ≡ read_from w (setting_is c s)
   unfolding reading_of read_from cause_of
-  not_fetched h =
-      let z : first_cause (read_causes w (setting_is c s)) ≡ refused (fault r 0) = sym cause_is ∙ rw (ne_is_none r h) in
+  not_fetched {n} h =
+      let z : first_cause (read_causes w (setting_is c s)) ≡ refused (fault n 0) = sym cause_is ∙ rw h in
       sym (rw z)
 
   module _ (h : r ≡ None) where

@@ -4,8 +4,6 @@ use Rattle.cdi.specs.Faults.{Answer, accepted, refused, ◌and_then◌, is_accep
 use Rattle.cdi.specs.Values.{with_sign}
 use Rattle.cdi.specs.Access as A
 use Rattle.cdi.specs.Access.{Window, Value, integer, event, string, is_inside, first_cause, write_causes, value_in}
-use Rattle.maps.specs.declared.Wanted.TheVariants.{Event, Text}
-use Rattle.access_kinds.specs.declared.Setting.{Setting}
 use Rattle.refusals.specs.declared.Refusal.{Refusal}
 use Rattle.refusals.specs.Refusals.{fault_of}
 use Rattle.access_reading.specs.declared.Reading.{Reading}

@@ -141,7 +141,13 @@ fn value_in(
 }
 
 // Takes the value out of the window, if nothing speaks against it.
-pub fn fetch(content: &[u8], setting: Setting, space: u64, first: u64, window: &[u8]) -> Result<Reading, Refusal>
+pub fn fetch(
+    content: &[u8],
+    setting: Setting,
+    space: u64,
+    first: u64,
+    window: &[u8],
+) -> Result<Reading, Refusal>
     requires { Good content.now setting }
     ensures is { reading_of window.now result ≡ read_from (window_of space first window.now) (setting_is content.now setting) }
     ensures at { ReadAt (setting.address - first) window.now result }
