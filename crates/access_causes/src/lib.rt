@@ -20,14 +20,7 @@ fn is_withheld(content: &[u8], setting: Setting) -> bool
     requires { Good content.now setting }
     ensures { result ≡ (is_float (setting_is content.now setting) || is_mapped_event (setting_is content.now setting)) }
 {
-    if setting.kind == FLOAT {
-        return true;
-    }
-    if setting.kind == EVENTID {
-        let part = setting.part;
-        return has_map(content, part);
-    }
-    false
+    setting.kind == FLOAT || setting.kind == EVENTID && has_map(content, setting.part)
 }
 
 // 23: does a value of the variable's kind keep its bounds?
@@ -36,46 +29,40 @@ fn keeps_bounds(content: &[u8], setting: Setting, value: Wanted) -> bool
     ensures { Bounded (setting_is content.now setting) (wanted_of value no_text) result }
 {
     match value {
-        Wanted::Event(_) => true,
-        Wanted::Text => true,
         Wanted::Number {
             negative,
             magnitude,
-        } => {
-            if setting.kind == INT {
-                let part = setting.part;
-                return is_in_bounds(content, part, setting.size, negative, magnitude);
-            }
-            true
-        }
+        } if setting.kind == INT => is_in_bounds(
+            content,
+            setting.part,
+            setting.size,
+            negative,
+            magnitude,
+        ),
+        Wanted::Number { .. } | Wanted::Event(_) | Wanted::Text => true,
     }
 }
 
 // ── the decision ──
 
-// The cause why this value can't be written, or 0.
+// The cause why this value can't be written, if there is one.
 pub fn write_cause(
     content: &[u8],
     setting: Setting,
     inside: bool,
     value: Wanted,
     string: &[u8],
-) -> usize
+) -> Option<usize>
     requires { Good content.now setting }
     ensures { Decides (setting_is content.now setting) inside (wanted_of value string.now) result }
 {
-    let withheld = is_withheld(content, setting);
     let kind = kind_of(value);
-    let bounded = keeps_bounds(content, setting, value);
-    let good = is_good_text(setting, value, string);
-    let part = setting.part;
-    let listed = is_admitted(content, part, value, string);
     first_cause(
-        withheld,
+        is_withheld(content, setting),
         kind != setting.kind,
-        !bounded,
-        !good,
-        !listed,
+        !keeps_bounds(content, setting, value),
+        !is_good_text(setting, value, string),
+        !is_admitted(content, setting.part, value, string),
         !inside,
     )
 }

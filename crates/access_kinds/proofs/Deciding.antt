@@ -1,18 +1,19 @@
 -- The causes as plain answers, and the first of them.
 use mathlib.Core.Path.{◌≡◌, refl, sym, ap, ◌∙◌}
 use mathlib.Core.List.{List, [], ◌∷◌}
-use mathlib.Core.Bool.{Bool, true, false, cond, not, ◌||◌}
-use mathlib.Core.Option.{some}
-use Prim.Native.Nat.{ℕ, zero, ◌+◌, ◌-◌, ◌≤◌, ◌<◌}
+use mathlib.Core.Bool.{Bool, true, false, not, ◌||◌}
+use Prim.Native.Nat.{ℕ, ◌+◌, ◌-◌, ◌≤◌, ◌<◌}
 use native.Mathlib.Decide.{dec_le}
 use native.Mathlib.Omega.{arith}
 use borrow.Author.Rules.{rules}
 use borrow.Author.Tests.{eq-eqb, ne_eqb, eqb-true, eqb-false, le-leb, lt-leb}
 use lib.Dec.{eqb, leb, ltb}
+use Rattle.std.specs.Prelude.{Option}
+use Rattle.std.specs.List.{list_any}
 use lib.IntN.{pos}
 use lib.ListN.{length}
 use Rattle.cdi.specs.Lists.{ascii, given, any}
-use Rattle.cdi.specs.Text.{zero_from, is_utf8}
+use Rattle.cdi.specs.Text.{is_utf8}
 use Rattle.cdi.specs.Numbers.{within}
 use Rattle.cdi.specs.Rules.{bounds_of}
 use Rattle.cdi.specs.Table.{same_number}
@@ -22,9 +23,6 @@ use Rattle.cdi.specs.Access as A
 use Rattle.cdi.specs.Access.{Window, Value, integer, event, string, child_of, properties, has_map, kind_of_value, in_bounds, is_good_text, equals, is_admitted, is_inside, is_float, is_mapped_event, first_cause, write_causes, read_causes}
 use Rattle.cdi.proofs.Quiet.{impossible}
 use Rattle.children.specs.Siblings.{Inside}
-use Rattle.values.specs.Held.{zero_at}
-use Rattle.values.specs.declared.Zero.{Zero}
-use Rattle.values.specs.declared.Zero.TheVariants as zero
 use Rattle.maps.specs.Matches.{wanted_of}
 use Rattle.maps.specs.declared.Wanted.{Wanted}
 use Rattle.maps.specs.declared.Wanted.TheVariants.{Number, Event, Text}
@@ -65,18 +63,18 @@ module _ {c : List ℕ} {s : Setting} (g : Good c s) where
 -- ── 27 ──
 
 module _ (c : List ℕ) (s : Setting) where
-  pub withheld_float : s.kind ≡ 6 → true ≡ (is_float (setting_is c s) || is_mapped_event (setting_is c s))
+  pub withheld_float : s.kind ≡ 6 → eqb s.kind 6 ≡ (is_float (setting_is c s) || is_mapped_event (setting_is c s))
   unfolding is_float setting_is
-  withheld_float e = sym (rw (eq-eqb _ _ e))
+  withheld_float e = eq-eqb _ _ e ∙ sym (rw (eq-eqb _ _ e))
 
   module _ (h : s.kind ≡ 6 → ⊥) where
     pub withheld_event : s.kind ≡ 5 → {r : Bool} → r ≡ has_map (content_in c s.part) → r ≡ (is_float (setting_is c s) || is_mapped_event (setting_is c s))
     unfolding is_float is_mapped_event setting_is
     withheld_event e q = q ∙ sym (rw (ne_eqb _ _ h, eq-eqb _ _ e))
 
-    pub withheld_not : (s.kind ≡ 5 → ⊥) → false ≡ (is_float (setting_is c s) || is_mapped_event (setting_is c s))
+    pub withheld_not : (s.kind ≡ 5 → ⊥) → eqb s.kind 5 ≡ (is_float (setting_is c s) || is_mapped_event (setting_is c s))
     unfolding is_float is_mapped_event setting_is
-    withheld_not e = sym (rw (ne_eqb _ _ h, ne_eqb _ _ e))
+    withheld_not e = ne_eqb _ _ e ∙ sym (rw (ne_eqb _ _ h, ne_eqb _ _ e))
 
 pub ruleset withholding = (withheld_float, withheld_event, withheld_not, good_inside, rules)
 
@@ -120,25 +118,17 @@ pub ruleset bounding = (bounded_event, bounded_text, bounded_other, bounded_int,
 
 -- ── 25 ──
 
-zero_any : (at : ℕ) (s : List ℕ) → given (zero_from at s) false (λ p. true) ≡ any (eqb 0) s
-unfolding zero_from any
-zero_any at [] = refl
-zero_any at (b ∷ s) = by (eqb b 0) refl (zero_any (at + 1) s)
+zero_any : (s : List ℕ) → list_any (λ b. eqb b 0) s ≡ any (eqb 0) s
+unfolding any
+zero_any [] = refl
+zero_any (b ∷ s) = by (eqb b 0) refl (zero_any s)
   where
-    by : (x : Bool) → eqb b 0 ≡ x → given (zero_from (at + 1) s) false (λ p. true) ≡ any (eqb 0) s → given (cond x (some at) (zero_from (at + 1) s)) false (λ p. true) ≡ (eqb 0 b || any (eqb 0) s)
+    by : (x : Bool) → eqb b 0 ≡ x → list_any (λ b. eqb b 0) s ≡ any (eqb 0) s → (x || list_any (λ b. eqb b 0) s) ≡ (eqb 0 b || any (eqb 0) s)
     by true e f = sym (rw (eq-eqb 0 b (sym (eqb-true b 0 e))))
     by false e f = f ∙ sym (rw (ne_eqb 0 b (λ z. eqb-false b 0 e (sym z))))
 
-module _ (s : List ℕ) {z : Zero} (e : zero_at z ≡ zero_from 0 s) where
-  pub some_zero : {i : ℕ} → z ≡ zero.At i → true ≡ any (eqb 0) s
-  unfolding zero_at
-  some_zero q = sym (sym (zero_any 0 s) ∙ rw (sym e ∙ ap zero_at q))
-
-  pub no_zero : z ≡ zero.Missing → false ≡ any (eqb 0) s
-  unfolding zero_at
-  no_zero q = sym (sym (zero_any 0 s) ∙ rw (sym e ∙ ap zero_at q))
-
-pub ruleset zeros = (some_zero, no_zero, rules)
+pub some_zero : (s : List ℕ) {r : Bool} → r ≡ list_any (λ b. eqb b 0) s → r ≡ any (eqb 0) s
+some_zero s e = e ∙ zero_any s
 
 module _ (s : Setting) {v : Wanted} (t : List ℕ) where
   pub good_event : {x : ℕ} → v ≡ Event x → true ≡ is_good_text (setting_is [] s) (wanted_of v t)
@@ -227,7 +217,7 @@ module _ (c : List ℕ) (s : Setting) (v : Wanted) (t : List ℕ) where
       → (x : Bool) → Bounded (setting_is c s) (wanted_of v []) x
       → {y : Bool} → y ≡ is_good_text (setting_is [] s) (wanted_of v t)
       → {z : Bool} → z ≡ given (child_of (ascii "map") (content_in c s.part)) true (λ m. any (equals (wanted_of v t)) (properties m))
-      → {i : Bool} {r : ℕ} → r ≡ first_of a (not (eqb k s.kind)) (not x) (not y) (not z) (not i)
+      → {i : Bool} {r : Option ℕ} → r ≡ first_of a (not (eqb k s.kind)) (not x) (not y) (not z) (not i)
       → Decides (setting_is c s) i (wanted_of v t) r
   unfolding Bounded setting_is is_admitted write_causes
   decides {a} ea {k} ek x ex {y} ey {z} ez {i} {r} er = record { of = λ w ei. by w ei (eqb (kind_of_value (wanted_of v t)) s.kind) refl }

@@ -1,5 +1,5 @@
 -- What a setting means, and its causes.
-use Rattle.std.specs.Prelude.{◌≡◌, List, [], Bool, false, not, ◌&&◌, ℕ, ◌+◌, eqb, leb}
+use Rattle.std.specs.Prelude.{◌≡◌, List, [], Bool, false, not, ◌&&◌, ℕ, ◌+◌, eqb, leb, Option}
 use Rattle.cdi.specs.Access as A
 use Rattle.cdi.specs.Access.{Window, Value, kind_of_value, in_bounds, is_inside, first_cause, write_causes}
 use Rattle.cdi.specs.Settings.{SettingFits}
@@ -35,9 +35,9 @@ inside_by s space first l = eqb space s.space && (leb first s.address && leb (s.
 unfoldable pub Bounded : A.Setting → Value → Bool → Type 0
 Bounded s v r = kind_of_value v ≡ s.variable.kind → r ≡ in_bounds s v
 
--- r is the cause why v can't be written
-pub record Decides (s : A.Setting) (inside : Bool) (v : Value) (r : ℕ) : Type 0 where
+-- r is the cause why v can't be written, if there is one
+pub record Decides (s : A.Setting) (inside : Bool) (v : Value) (r : Option ℕ) : Type 0 where
   pub of : (w : Window) → inside ≡ is_inside w s.variable → cause_of r ≡ first_cause (write_causes w v s)
 
-unfoldable pub read_cause : Setting → Bool → ℕ
+unfoldable pub read_cause : Setting → Bool → Option ℕ
 read_cause s inside = first_of (eqb s.kind 6) false false false false (not inside)

@@ -12,7 +12,6 @@ use children::Part;
 use maps::Wanted;
 use terms::{EVENTID, FLOAT, INT, STRING};
 use text::is_utf8;
-use values::{Zero, first_zero};
 
 // A variable as its table and its text describe it: the number of its record, its space, address, size and kind, and its own content.
 #[derive(Clone, Copy)]
@@ -26,14 +25,12 @@ pub struct Setting {
 }
 
 // 22: the kind of variable that a value is for.
+#[tactic(auto, unfolding(cdi::specs::Access::kind_of_value, maps::specs::Matches::wanted_of))]
 pub fn kind_of(value: Wanted) -> u64
     ensures { result ≡ kind_of_value (wanted_of value no_text) }
 {
     match value {
-        Wanted::Number {
-            negative: _,
-            magnitude: _,
-        } => INT,
+        Wanted::Number { .. } => INT,
         Wanted::Event(_) => EVENTID,
         Wanted::Text => STRING,
     }
@@ -42,10 +39,7 @@ pub fn kind_of(value: Wanted) -> u64
 fn has_zero(s: &[u8]) -> bool
     ensures { result ≡ any (eqb 0) s.now }
 {
-    let Zero::At(_) = first_zero(s) else {
-        return false;
-    };
-    true
+    s.contains(&0)
 }
 
 // 25: a text without a zero, which is UTF-8 and leaves room for a zero.
@@ -53,20 +47,8 @@ pub fn is_good_text(setting: Setting, value: Wanted, string: &[u8]) -> bool
     ensures { result ≡ is_good_text (setting_is no_text setting) (wanted_of value string.now) }
 {
     match value {
-        Wanted::Event(_) => true,
-        Wanted::Number {
-            negative: _,
-            magnitude: _,
-        } => true,
-        Wanted::Text => {
-            if has_zero(string) {
-                return false;
-            }
-            if is_utf8(string) {
-                return string.len() < setting.size;
-            }
-            false
-        }
+        Wanted::Text => !has_zero(string) && is_utf8(string) && string.len() < setting.size,
+        Wanted::Event(_) | Wanted::Number { .. } => true,
     }
 }
 
@@ -74,21 +56,18 @@ pub fn is_good_text(setting: Setting, value: Wanted, string: &[u8]) -> bool
 pub fn is_inside(setting: Setting, space: u64, first: u64, length: usize) -> bool
     ensures { result ≡ inside_by setting space first length }
 {
-    if space != setting.space {
-        return false;
+    let length = length as u64;
+    match setting.address.checked_sub(first) {
+        Some(before) => {
+            space == setting.space && before <= length && setting.size as u64 <= length - before
+        }
+        None => false,
     }
-    if setting.address < first {
-        return false;
-    }
-    let before = setting.address - first;
-    if (length as u64) < before {
-        return false;
-    }
-    setting.size as u64 <= length as u64 - before
 }
 
-// The cause why the variable can't be read, or 0.
-pub fn read_cause(setting: Setting, inside: bool) -> usize
+// The cause why the variable can't be read, if there is one.
+#[tactic(auto, unfolding(crate::specs::Told::read_cause))]
+pub fn read_cause(setting: Setting, inside: bool) -> Option<usize>
     ensures { result ≡ read_cause setting inside }
 {
     first_cause(setting.kind == FLOAT, false, false, false, false, !inside)

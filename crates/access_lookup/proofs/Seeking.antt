@@ -39,7 +39,9 @@ use Rattle.settings.proofs.Rereading.{content_place}
 use Rattle.access_lookup.specs.Told.{end_in, known_of, lookup_of, Fits}
 use Rattle.access_kinds.specs.Told.{setting_is}
 use Rattle.access_kinds.specs.declared.Setting.{Setting}
-use Rattle.access_lookup.specs.declared.Lookup.TheVariants.{Is, Nothing}
+use Rattle.refusals.specs.declared.Refusal.{Refusal}
+use Rattle.refusals.specs.Refusals.{refusal}
+use Rattle.std.specs.Prelude.{Ok, Err}
 
 -- ── what was checked ──
 
@@ -111,11 +113,11 @@ module _ (b : List ℕ) (t : List ℤ) {e : ℕ} (h : known_of b t ≡ accepted 
 
   module _ (n : ℕ) {r : Result One Absent} (f : told_of r ≡ variable_of (segments_of t) n) where
     -- no such variable
-    pub seek_none : r ≡ Err NoVariable → lookup_of c (Nothing 21) ≡ setting_of b t n
+    pub seek_none : r ≡ Err NoVariable → lookup_of c (Err (refusal 21 0)) ≡ setting_of b t n
     unfolding lookup_of setting_in told_of
     seek_none q = sym (setting_is_law n ∙ rw (ap (λ x. variable_of x n) (sym segments_are) ∙ sym f ∙ ap told_of q))
 
-    pub seek_no_plan : r ≡ Err NotAPlan → lookup_of c (Nothing 20) ≡ setting_of b t n
+    pub seek_no_plan : r ≡ Err NotAPlan → lookup_of c (Err (refusal 20 0)) ≡ setting_of b t n
     unfolding lookup_of setting_in told_of
     seek_no_plan q = sym (setting_is_law n ∙ rw (ap (λ x. variable_of x n) (sym segments_are) ∙ sym f ∙ ap told_of q))
 
@@ -145,17 +147,17 @@ module _ (b : List ℕ) (t : List ℤ) {e : ℕ} (h : known_of b t ≡ accepted 
         abbrev it : Setting
         it = record { number = v.record; space = v.space; address = v.address; size = v.size; kind = v.kind; part = x }
 
-        pub seek_is : lookup_of c (Is it) ≡ setting_of b t n
+        pub seek_is : lookup_of c (Ok it) ≡ setting_of b t n
         unfolding lookup_of setting_is setting_in content_in
         seek_is = sym (setting_is_law n ∙ rw (found, nodes_are, sym (rw (lent b e, l) at m)))
 
-        pub seek_fits : Inside (take (e - 0) (drop 0 b)) x → Fits c (Is it)
+        pub seek_fits : Inside (take (e - 0) (drop 0 b)) x → Fits c (Ok it)
         unfolding Fits lookup_of
         seek_fits y = record { inside = rw (lent b e) at y; fits = setting_fits b t n (setting_is c it) (sym seek_is) }
 
-pub nothing_fits : (c : List ℕ) (m : ℕ) → Fits c (Nothing m)
+pub nothing_fits : (c : List ℕ) (r : Refusal) → Fits c (Err r)
 unfolding Fits
-nothing_fits c m = tt
+nothing_fits c r = tt
 
 pub held_record : (t : List ℤ) {r : Result One Absent} → Held t r → (v : One) → r ≡ Ok v → v.record * 8 + 8 ≤ length t
 unfolding Held

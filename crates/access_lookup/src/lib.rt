@@ -9,29 +9,29 @@ ghost use Rattle.access_lookup.specs.Told.{known_of, lookup_of, Fits};
 use access_kinds::Setting;
 use locate::{Absent, find};
 use locate_rows::{PLACE, rise_at};
+use refusals::Refusal;
 use settings::content_at;
 use terms::FIRST_LINE;
 
-// The setting, or the number of the refusal.
-#[derive(Clone, Copy)]
-pub enum Lookup {
-    Is(Setting),
-    Nothing(usize),
-}
-
 // Variable `n` of a text and a table that have been checked.
-pub fn seek(text: &[u8], end: usize, table: &[i64], n: u64) -> Lookup
+pub fn seek(text: &[u8], end: usize, table: &[i64], n: u64) -> Result<Setting, Refusal>
     requires { known_of text.now table.now ≡ accepted end }
     ensures is { lookup_of (take end text.now) result ≡ setting_of text.now table.now n }
     ensures fits { Fits (take end text.now) result }
 {
     match find(table, n) {
-        Err(Absent::NotAPlan) => Lookup::Nothing(20),
-        Err(Absent::NoVariable) => Lookup::Nothing(21),
+        Err(Absent::NotAPlan) => Err(Refusal {
+            number: 20,
+            place: 0,
+        }),
+        Err(Absent::NoVariable) => Err(Refusal {
+            number: 21,
+            place: 0,
+        }),
         Ok(it) => {
             let place = rise_at(table, it.record, PLACE);
             let part = content_at(&text[0..end], FIRST_LINE, place as usize);
-            Lookup::Is(Setting {
+            Ok(Setting {
                 number: it.record,
                 space: it.space,
                 address: it.address,

@@ -1,10 +1,11 @@
 -- The order of the causes is that of the definitions.
 use mathlib.Core.Path.{◌≡◌, refl}
 use mathlib.Core.List.{[], ◌∷◌}
-use mathlib.Core.Bool.{Bool, true, false, cond}
+use mathlib.Core.Bool.{Bool, true, false}
 use Prim.Native.Nat.{ℕ}
-use lib.Dec.{eqb}
-use Rattle.cdi.specs.Faults.{fault, Answer, accepted, refused, is_accepted}
+use Rattle.std.specs.Prelude.{Option, Some, None}
+use Rattle.std.specs.Option.{is_none}
+use Rattle.cdi.specs.Faults.{is_accepted}
 use Rattle.cdi.specs.Access.{first_cause}
 use Rattle.access_order.specs.Told.{first_of, cause_of}
 
@@ -24,13 +25,7 @@ unfolding first_of
 later true x y z o x' y' z' o' = refl
 later false x y z o x' y' z' o' = refl
 
-pub cause_accepted : (r : ℕ) → is_accepted (cause_of r) ≡ eqb r 0
+pub cause_accepted : (r : Option ℕ) → is_accepted (cause_of r) ≡ is_none r
 unfolding cause_of is_accepted
-cause_accepted r = by (eqb r 0)
-  where
-    either : Bool → Answer (Unit {0})
-    either b = cond b (accepted tt) (refused (fault r 0))
-
-    by : (b : Bool) → is_accepted (either b) ≡ b
-    by true = refl
-    by false = refl
+cause_accepted None = refl
+cause_accepted (Some n) = refl

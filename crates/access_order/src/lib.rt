@@ -4,8 +4,9 @@
 ghost use Rattle.std.specs.Prelude.{◌≡◌};
 ghost use Rattle.access_order.specs.Told.{first_of};
 
-// The first cause that holds, in document 01's order, or 0: the variable isn't to be written, the value is of another kind, it is out of bounds, it is
-// no text for it, it isn't listed in the map, the variable isn't inside the window.
+// The first cause that holds, in document 01's order, if one does: the variable isn't to be written, the value is of another kind, it is out of bounds,
+// it is no text for it, it isn't listed in the map, the variable isn't inside the window.
+#[tactic(auto, unfolding(crate::specs::Told::first_of))]
 pub fn first_cause(
     withheld: bool,
     unlike: bool,
@@ -13,26 +14,22 @@ pub fn first_cause(
     unfit: bool,
     unlisted: bool,
     outside: bool,
-) -> usize
+) -> Option<usize>
     ensures { result ≡ first_of withheld unlike beyond unfit unlisted outside }
 {
     if withheld {
-        return 27;
+        Some(27)
+    } else if unlike {
+        Some(22)
+    } else if beyond {
+        Some(23)
+    } else if unfit {
+        Some(25)
+    } else if unlisted {
+        Some(24)
+    } else if outside {
+        Some(26)
+    } else {
+        None
     }
-    if unlike {
-        return 22;
-    }
-    if beyond {
-        return 23;
-    }
-    if unfit {
-        return 25;
-    }
-    if unlisted {
-        return 24;
-    }
-    if outside {
-        return 26;
-    }
-    0
 }

@@ -23,8 +23,6 @@ use Rattle.cdi.proofs.Back.{Lies, lies, event_size}
 use Rattle.terms.specs.Wholes.{whole_of, Plain}
 use Rattle.values.specs.Held.{zero_at}
 use Rattle.terms.specs.declared.Whole.{Whole}
-use Rattle.values.specs.declared.Zero.{Zero}
-use Rattle.values.specs.declared.Zero.TheVariants as zero
 use Rattle.maps.specs.Matches.{wanted_of}
 use Rattle.maps.specs.declared.Wanted.TheVariants.{Number, Event, Text}
 use Rattle.settings.specs.Contents.{content_in}
@@ -32,6 +30,10 @@ use Rattle.access_kinds.specs.Told.{setting_is, Good, window_of, inside_by, Deci
 use Rattle.access_order.specs.Told.{first_of, cause_of}
 use Rattle.access_reading.specs.Told.{reading_of, ReadAt, ReadsAs, as_read}
 use Rattle.access_kinds.specs.declared.Setting.{Setting}
+use Rattle.refusals.specs.declared.Refusal.{Refusal}
+use Rattle.refusals.specs.Refusals.{refusal}
+use Rattle.std.specs.Prelude.{Option, Some, None, Result, Ok, Err}
+use Rattle.std.specs.Option.{is_some}
 use Rattle.access_reading.specs.declared.Reading.{Reading}
 use Rattle.access_reading.specs.declared.Reading.TheVariants as reading
 use Rattle.access_kinds.proofs.Deciding.{read_decides, inside_is, int_least, int_most, good_inside}
@@ -40,20 +42,24 @@ use Rattle.access_kinds.proofs.Owned.{own_length}
 
 -- ── any kind ──
 
-module _ {s : A.Setting} {i : Bool} (bytes own : List ℕ) (q : Reading) where
-  reads : (v : Value) {r : ℕ} → value_in s own ≡ accepted v → Decides s i v r → reading_of bytes q ≡ accepted (record { value = v; writable = eqb r 0 }) → ReadsAs s i bytes own q
+is_not : (f : Bool) {b : Bool} → b ≡ not f → not b ≡ f
+is_not true e = rw e
+is_not false e = rw e
+
+module _ {s : A.Setting} {i : Bool} (bytes own : List ℕ) (q : Result Reading Refusal) where
+  reads : (v : Value) {r : Option ℕ} {f : Bool} → value_in s own ≡ accepted v → Decides s i v r → is_some r ≡ not f → reading_of bytes q ≡ accepted (record { value = v; writable = f }) → ReadsAs s i bytes own q
   unfolding as_read
-  reads v {r} e x z = record {
-    of = λ w ei. z ∙ ap (λ (f : Bool). accepted (record { value = v; writable = f })) (sym (cause_accepted r) ∙ ap is_accepted (x.of w ei)) ∙ sym (rw e);
+  reads v {r} {f} e x k z = record {
+    of = λ w ei. z ∙ ap (λ (g : Bool). accepted (record { value = v; writable = g })) (sym (is_not f k) ∙ sym (cause_accepted r) ∙ ap is_accepted (x.of w ei)) ∙ sym (rw e);
   }
 
   reads_not : value_in s own ≡ refused (fault 28 0) → reading_of bytes q ≡ refused (fault 28 0) → ReadsAs s i bytes own q
   unfolding as_read
   reads_not e z = record { of = λ w ei. z ∙ sym (rw e) }
 
-pub refused_anywhere : (at : ℕ) (bytes : List ℕ) (n p : ℕ) → ReadAt at bytes (reading.Refused n p)
+pub refused_anywhere : (at : ℕ) (bytes : List ℕ) (r : Refusal) → ReadAt at bytes (Err r)
 unfolding ReadAt
-refused_anywhere at bytes n p = tt
+refused_anywhere at bytes r = tt
 
 module _ (c : List ℕ) (s : Setting) (i : Bool) (bytes : List ℕ) (from to : ℕ) where
   abbrev own : List ℕ
@@ -73,12 +79,12 @@ module _ (c : List ℕ) (s : Setting) (i : Bool) (bytes : List ℕ) (from to : �
       unfolding value_in setting_is bounds_of whole_of
       int_value = rw k (ap (λ x. accepted (integer x)) (sym (f ∙ rw (own_length from to s.size bytes l h, e) refl)))
 
-      pub reads_integer : {r : ℕ} → Decides (setting_is c s) i (wanted_of (Number w.negative w.magnitude) []) r
-          → ReadsAs (setting_is c s) i bytes own (reading.Integer w.negative w.magnitude (eqb r 0))
+      pub reads_integer : {r : Option ℕ} → Decides (setting_is c s) i (wanted_of (Number w.negative w.magnitude) []) r
+          → {f : Bool} → is_some r ≡ not f → ReadsAs (setting_is c s) i bytes own (Ok (reading.Integer w.negative w.magnitude f))
       unfolding wanted_of reading_of
-      reads_integer x = reads bytes own _ _ int_value x refl
+      reads_integer x k = reads bytes own _ _ int_value x k refl
 
-  pub integer_plain : (w : Whole) → Plain w → (f : Bool) → ReadAt from bytes (reading.Integer w.negative w.magnitude f)
+  pub integer_plain : (w : Whole) → Plain w → (f : Bool) → ReadAt from bytes (Ok (reading.Integer w.negative w.magnitude f))
   unfolding Plain ReadAt
   integer_plain w p f = p
 
@@ -89,26 +95,26 @@ module _ (c : List ℕ) (s : Setting) (i : Bool) (bytes : List ℕ) (from to : �
     unfolding setting_is
     event_high g = omega (arith, own_length from to s.size bytes l h, event_size s.kind s.size g.fits.sized k)
 
-    pub reads_event : {x : ℕ} → x ≡ value_of own → {r : ℕ} → Decides (setting_is c s) i (wanted_of (Event x) []) r → ReadsAs (setting_is c s) i bytes own (reading.Event x (eqb r 0))
+    pub reads_event : {x : ℕ} → x ≡ value_of own → {r : Option ℕ} → Decides (setting_is c s) i (wanted_of (Event x) []) r → {f : Bool} → is_some r ≡ not f → ReadsAs (setting_is c s) i bytes own (Ok (reading.Event x f))
     unfolding wanted_of reading_of value_in setting_is
-    reads_event e d = reads bytes own _ _ (rw (k, e)) d refl
+    reads_event e d n = reads bytes own _ _ (rw (k, e)) d n refl
 
-  pub event_anywhere : (x : ℕ) (f : Bool) → ReadAt from bytes (reading.Event x f)
+  pub event_anywhere : (x : ℕ) (f : Bool) → ReadAt from bytes (Ok (reading.Event x f))
   unfolding ReadAt
   event_anywhere x f = tt
 
   -- ── strings ──
 
-  module _ (k : s.kind ≡ 4) (z : Zero) (e : zero_at z ≡ zero_from 0 own) where
+  module _ (k : s.kind ≡ 4) (z : Option ℕ) (e : zero_at z ≡ zero_from 0 own) where
     is_text_law : value_in (setting_is c s) own ≡ text_in own
     unfolding value_in setting_is
     is_text_law = rw k
 
-    pub no_text : z ≡ zero.Missing → ReadsAs (setting_is c s) i bytes own (reading.Refused 28 0)
+    pub no_text : z ≡ None → ReadsAs (setting_is c s) i bytes own (Err (refusal 28 0))
     unfolding text_in zero_at reading_of
     no_text q = reads_not bytes own _ (is_text_law ∙ rw (sym e ∙ ap zero_at q)) refl
 
-    module _ (h : to ≤ length bytes) {n : ℕ} (q : z ≡ zero.At n) where
+    module _ (h : to ≤ length bytes) {n : ℕ} (q : z ≡ Some n) where
       short : n < to - from
       unfolding zero_at
       short = let x = first_zero 0 own n (sym e ∙ ap zero_at q) in omega (arith, x, length-take (to - from) (drop from bytes))
@@ -126,15 +132,15 @@ module _ (c : List ℕ) (s : Setting) (i : Bool) (bytes : List ℕ) (from to : �
       text_is f = is_text_law ∙ rw (sym e ∙ ap zero_at q, front, sym f)
 
       module _ {u : Bool} (f : u ≡ is_utf8 (take (from + n - from) (drop from bytes))) where
-        pub not_text : u ≡ false → ReadsAs (setting_is c s) i bytes own (reading.Refused 28 0)
+        pub not_text : u ≡ false → ReadsAs (setting_is c s) i bytes own (Err (refusal 28 0))
         unfolding reading_of
         not_text w = reads_not bytes own _ (text_is f ∙ rw w) refl
 
-        pub reads_text : u ≡ true → {r : ℕ} → Decides (setting_is c s) i (wanted_of Text (take (from + n - from) (drop from bytes))) r → ReadsAs (setting_is c s) i bytes own (reading.Text from (from + n) (eqb r 0))
+        pub reads_text : u ≡ true → {r : Option ℕ} → Decides (setting_is c s) i (wanted_of Text (take (from + n - from) (drop from bytes))) r → {g : Bool} → is_some r ≡ not g → ReadsAs (setting_is c s) i bytes own (Ok (reading.Text from (from + n) g))
         unfolding wanted_of reading_of
-        reads_text w x = reads bytes own _ _ (text_is f ∙ rw w) x refl
+        reads_text w x y = reads bytes own _ _ (text_is f ∙ rw w) x y refl
 
-        pub text_at : (g : Bool) → ReadAt from bytes (reading.Text from (from + n) g)
+        pub text_at : (g : Bool) → ReadAt from bytes (Ok (reading.Text from (from + n) g))
         unfolding ReadAt
         text_at g = (refl, omega arith, zero_inside)
 
@@ -161,29 +167,29 @@ pub ruleset reading_value = (is_event, rules)
 
 -- ── the whole answer ──
 
-module _ (c : List ℕ) (s : Setting) (space first : ℕ) (bytes : List ℕ) {i : Bool} (ei : i ≡ inside_by s space first (length bytes)) {r : ℕ} (er : r ≡ read_cause s i) where
+module _ (c : List ℕ) (s : Setting) (space first : ℕ) (bytes : List ℕ) {i : Bool} (ei : i ≡ inside_by s space first (length bytes)) {r : Option ℕ} (er : r ≡ read_cause s i) where
   abbrev w : Window
   w = window_of space first bytes
 
   cause_is : cause_of r ≡ first_cause (read_causes w (setting_is c s))
   cause_is = ap cause_of er ∙ read_decides c s w (ei ∙ inside_is c s space first bytes)
 
-  pub not_fetched : (r ≡ 0 → ⊥) → reading_of bytes (reading.Refused r 0) ≡ read_from w (setting_is c s)
+  pub not_fetched : {n : ℕ} → r ≡ Some n → reading_of bytes (Err (refusal n 0)) ≡ read_from w (setting_is c s)
   unfolding reading_of read_from cause_of
-  not_fetched h =
-      let z : first_cause (read_causes w (setting_is c s)) ≡ refused (fault r 0) = sym cause_is ∙ rw (ne_eqb r 0 h) in
+  not_fetched {n} h =
+      let z : first_cause (read_causes w (setting_is c s)) ≡ refused (fault n 0) = sym cause_is ∙ rw h in
       sym (rw z)
 
-  module _ (h : r ≡ 0) where
-    nothing_against : first_of (eqb s.kind 6) false false false false (not i) ≡ 0
+  module _ (h : r ≡ None) where
+    nothing_against : first_of (eqb s.kind 6) false false false false (not i) ≡ None
     unfolding read_cause
     nothing_against = sym er ∙ h
 
-    passed_both : (x y : Bool) → first_of x false false false false (not y) ≡ 0 → (x ≡ false) × (y ≡ true)
+    passed_both : (x y : Bool) → first_of x false false false false (not y) ≡ None → (x ≡ false) × (y ≡ true)
     unfolding first_of
-    passed_both true y e = absurd (omega arith)
+    passed_both true y e = impossible (cc)
     passed_both false true e = (refl, refl)
-    passed_both false false e = absurd (omega arith)
+    passed_both false false e = impossible (cc)
 
     no_cause : first_cause (read_causes w (setting_is c s)) ≡ accepted tt
     unfolding cause_of
@@ -203,7 +209,7 @@ module _ (c : List ℕ) (s : Setting) (space first : ℕ) (bytes : List ℕ) {i 
     unfolding setting_is
     fetch_high = let a = in_window.low in let b = in_window.high in omega arith
 
-    pub fetched : (q : Reading) → ReadsAs (setting_is c s) i bytes (take (s.address - first + s.size - (s.address - first)) (drop (s.address - first) bytes)) q → reading_of bytes q ≡ read_from w (setting_is c s)
+    pub fetched : (q : Result Reading Refusal) → ReadsAs (setting_is c s) i bytes (take (s.address - first + s.size - (s.address - first)) (drop (s.address - first) bytes)) q → reading_of bytes q ≡ read_from w (setting_is c s)
     unfolding read_from as_read own_bytes start_in setting_is cause_of
     fetched q x =
         let l : s.address - first + s.size - (s.address - first) ≡ s.size = omega arith in

@@ -9,12 +9,13 @@ ghost use Rattle.access_reading.specs.Told.{reading_of, ReadAt, ReadsAs};
 use access_causes::write_cause;
 use access_kinds::{Setting, is_inside, read_cause};
 use maps::Wanted;
+use refusals::Refusal;
 use settings_bounds::is_signed;
-use terms::{INT, STRING};
+use terms::{INT, STRING, Whole};
 use text::is_utf8;
-use values::{Zero, first_zero, number_in, whole_in};
+use values::{first_zero, number_in, whole_in};
 
-// The value and whether writing it now would be accepted; of a text, from where to before where in the window it stands. Or the refusal.
+// The value and whether writing it now would be accepted; of a text, from where to before where in the window it stands.
 #[derive(Clone, Copy)]
 pub enum Reading {
     Integer {
@@ -31,10 +32,6 @@ pub enum Reading {
         to: usize,
         writable: bool,
     },
-    Refused {
-        number: usize,
-        place: usize,
-    },
 }
 
 // The integer that the window holds from one place to before another.
@@ -47,14 +44,14 @@ fn integer_in(
     to: usize,
 ) -> Reading
     requires { Good content.now setting × (setting.kind ≡ 3) × (from + setting.size ≡ to) × (to ≤ length window.now) }
-    ensures is { ReadsAs (setting_is content.now setting) inside window.now (take (to - from) (drop from window.now)) result }
-    ensures at { ReadAt from window.now result }
+    ensures is { ReadsAs (setting_is content.now setting) inside window.now (take (to - from) (drop from window.now)) (Ok result) }
+    ensures at { ReadAt from window.now (Ok result) }
 {
-    let part = setting.part;
-    let signed = is_signed(content, part);
-    let whole = whole_in(&window[from..to], signed);
-    let negative = whole.negative;
-    let magnitude = whole.magnitude;
+    let signed = is_signed(content, setting.part);
+    let Whole {
+        negative,
+        magnitude,
+    } = whole_in(&window[from..to], signed);
     let value = Wanted::Number {
         negative,
         magnitude,
@@ -63,7 +60,7 @@ fn integer_in(
     Reading::Integer {
         negative,
         magnitude,
-        writable: cause == 0,
+        writable: cause.is_none(),
     }
 }
 
@@ -77,14 +74,14 @@ fn event_in(
     to: usize,
 ) -> Reading
     requires { Good content.now setting × (setting.kind ≡ 5) × (from + setting.size ≡ to) × (to ≤ length window.now) }
-    ensures is { ReadsAs (setting_is content.now setting) inside window.now (take (to - from) (drop from window.now)) result }
-    ensures at { ReadAt from window.now result }
+    ensures is { ReadsAs (setting_is content.now setting) inside window.now (take (to - from) (drop from window.now)) (Ok result) }
+    ensures at { ReadAt from window.now (Ok result) }
 {
     let id = number_in(&window[from..to]);
     let cause = write_cause(content, setting, inside, Wanted::Event(id), b"");
     Reading::Event {
         id,
-        writable: cause == 0,
+        writable: cause.is_none(),
     }
 }
 
@@ -96,36 +93,31 @@ fn text_in(
     window: &[u8],
     from: usize,
     to: usize,
-) -> Reading
+) -> Result<Reading, Refusal>
     requires { Good content.now setting × (setting.kind ≡ 4) × (from + setting.size ≡ to) × (to ≤ length window.now) }
     ensures is { ReadsAs (setting_is content.now setting) inside window.now (take (to - from) (drop from window.now)) result }
     ensures at { ReadAt from window.now result }
 {
-    let Zero::At(length) = first_zero(&window[from..to]) else {
-        return Reading::Refused {
+    let Some(length) = first_zero(&window[from..to]) else {
+        return Err(Refusal {
             number: 28,
             place: 0,
-        };
+        });
     };
     let behind = from + length;
-    if is_utf8(&window[from..behind]) {
-        let cause = write_cause(
-            content,
-            setting,
-            inside,
-            Wanted::Text,
-            &window[from..behind],
-        );
-        return Reading::Text {
-            from,
-            to: behind,
-            writable: cause == 0,
-        };
+    let text = &window[from..behind];
+    if !is_utf8(text) {
+        return Err(Refusal {
+            number: 28,
+            place: 0,
+        });
     }
-    Reading::Refused {
-        number: 28,
-        place: 0,
-    }
+    let cause = write_cause(content, setting, inside, Wanted::Text, text);
+    Ok(Reading::Text {
+        from,
+        to: behind,
+        writable: cause.is_none(),
+    })
 }
 
 // The value that it holds there, of a variable that is no float.
@@ -136,36 +128,37 @@ fn value_in(
     window: &[u8],
     from: usize,
     to: usize,
-) -> Reading
+) -> Result<Reading, Refusal>
     requires { Good content.now setting × (setting.kind ≡ 6 → ⊥) × (from + setting.size ≡ to) × (to ≤ length window.now) }
     ensures is { ReadsAs (setting_is content.now setting) inside window.now (take (to - from) (drop from window.now)) result }
     ensures at { ReadAt from window.now result }
 {
-    if setting.kind == INT {
-        return integer_in(content, setting, inside, window, from, to);
+    match setting.kind {
+        INT => Ok(integer_in(content, setting, inside, window, from, to)),
+        STRING => text_in(content, setting, inside, window, from, to),
+        _ => Ok(event_in(content, setting, inside, window, from, to)),
     }
-    if setting.kind == STRING {
-        return text_in(content, setting, inside, window, from, to);
-    }
-    event_in(content, setting, inside, window, from, to)
 }
 
 // Takes the value out of the window, if nothing speaks against it.
-pub fn fetch(content: &[u8], setting: Setting, space: u64, first: u64, window: &[u8]) -> Reading
+pub fn fetch(
+    content: &[u8],
+    setting: Setting,
+    space: u64,
+    first: u64,
+    window: &[u8],
+) -> Result<Reading, Refusal>
     requires { Good content.now setting }
     ensures is { reading_of window.now result ≡ read_from (window_of space first window.now) (setting_is content.now setting) }
     ensures at { ReadAt (setting.address - first) window.now result }
 {
-    let length = window.len();
-    let inside = is_inside(setting, space, first, length);
-    let cause = read_cause(setting, inside);
-    if cause == 0 {
-        let from = (setting.address - first) as usize;
-        let to = from + setting.size;
-        return value_in(content, setting, inside, window, from, to);
-    }
-    Reading::Refused {
-        number: cause,
-        place: 0,
+    let inside = is_inside(setting, space, first, window.len());
+    match read_cause(setting, inside) {
+        Some(number) => Err(Refusal { number, place: 0 }),
+        None => {
+            let from = (setting.address - first) as usize;
+            let to = from + setting.size;
+            value_in(content, setting, inside, window, from, to)
+        }
     }
 }

@@ -6,7 +6,6 @@ use Prim.Native.Nat.{ℕ, ◌+◌, ◌-◌, ◌*◌, ◌^◌, ◌≤◌}
 use native.Mathlib.Omega.{arith}
 use borrow.Author.Rules.{rules}
 use borrow.Rule.Slice.PartMut.{put_mid, Post-is}
-use borrow.Author.Tests.{ne_eqb}
 use lib.IntN.{pos, neg_ℤ}
 use lib.ListN.{length, take, drop, length-append, length-replicate}
 use Rattle.cdi.specs.Faults.{fault, accepted, refused, is_accepted}
@@ -25,7 +24,8 @@ use Rattle.access_kinds.specs.Told.{setting_is, Good, window_of, inside_by, Deci
 use Rattle.access_order.specs.Told.{cause_of}
 use Rattle.access_writing.specs.Told.{written_of, Room}
 use Rattle.access_kinds.specs.declared.Setting.{Setting}
-use Rattle.access_writing.specs.declared.Written.TheVariants as written
+use Rattle.refusals.specs.Refusals.{refusal}
+use Rattle.std.specs.Prelude.{Option, Some, None, Ok, Err}
 use Rattle.access_kinds.proofs.Deciding.{inside_is, int_least, int_most}
 use Rattle.access_kinds.proofs.Owned.{own_length}
 
@@ -89,7 +89,7 @@ storable_size s n false m l h =
 -- ── the window ──
 
 module _ (c : List ℕ) {s : Setting} (g : Good c s) (space first : ℕ) (bytes : List ℕ) (v : Wanted) (t : List ℕ)
-    {i : Bool} (ei : i ≡ inside_by s space first (length bytes)) {r : ℕ} (x : Decides (setting_is c s) i (wanted_of v t) r) where
+    {i : Bool} (ei : i ≡ inside_by s space first (length bytes)) {r : Option ℕ} (x : Decides (setting_is c s) i (wanted_of v t) r) where
   abbrev w : Window
   w = window_of space first bytes
 
@@ -97,12 +97,12 @@ module _ (c : List ℕ) {s : Setting} (g : Good c s) (space first : ℕ) (bytes 
   cause_is = x.of w (ei ∙ inside_is c s space first bytes)
 
   -- refused
-  module _ (h : r ≡ 0 → ⊥) where
-    pub refused_is : first_cause (write_causes w (wanted_of v t) (setting_is c s)) ≡ refused (fault r 0)
+  module _ {n : ℕ} (h : r ≡ Some n) where
+    pub refused_is : first_cause (write_causes w (wanted_of v t) (setting_is c s)) ≡ refused (fault n 0)
     unfolding cause_of
-    refused_is = sym cause_is ∙ rw (ne_eqb _ _ h)
+    refused_is = sym cause_is ∙ rw h
 
-    pub not_stored : written_of (written.Refused r 0) ≡ first_cause (write_causes w (wanted_of v t) (setting_is c s))
+    pub not_stored : written_of (Err (refusal n 0)) ≡ first_cause (write_causes w (wanted_of v t) (setting_is c s))
     unfolding written_of
     not_stored = sym refused_is
 
@@ -111,7 +111,7 @@ module _ (c : List ℕ) {s : Setting} (g : Good c s) (space first : ℕ) (bytes 
     not_changed = sym (rw refused_is)
 
   -- accepted
-  module _ (h : r ≡ 0) where
+  module _ (h : r ≡ None) where
     pub accepted_is : first_cause (write_causes w (wanted_of v t) (setting_is c s)) ≡ accepted tt
     unfolding cause_of
     accepted_is = sym cause_is ∙ rw h
@@ -147,7 +147,7 @@ module _ (c : List ℕ) {s : Setting} (g : Good c s) (space first : ℕ) (bytes 
     pub has_room_law : Room (length (take (s.address - first + s.size - (s.address - first)) (drop (s.address - first) bytes))) v (length t)
     has_room_law = rw own_size (room_for v refl)
 
-    pub is_stored : written_of written.Accepted ≡ first_cause (write_causes w (wanted_of v t) (setting_is c s))
+    pub is_stored : written_of (Ok tt) ≡ first_cause (write_causes w (wanted_of v t) (setting_is c s))
     unfolding written_of
     is_stored = sym accepted_is
 

@@ -1,14 +1,14 @@
 -- What the answer of writing means.
-use Rattle.std.specs.Prelude.{ℕ, ◌^◌, ◌≤◌}
-use Rattle.cdi.specs.Faults.{fault, Answer, accepted, refused}
+use Rattle.std.specs.Prelude.{ℕ, ◌^◌, ◌≤◌, Result, Ok, Err}
+use Rattle.cdi.specs.Faults.{Answer, accepted, refused}
 use Rattle.maps.specs.declared.Wanted.{Wanted}
 use Rattle.maps.specs.declared.Wanted.TheVariants.{Number, Event, Text}
-use Rattle.access_writing.specs.declared.Written.{Written}
-use Rattle.access_writing.specs.declared.Written.TheVariants as written
+use Rattle.refusals.specs.declared.Refusal.{Refusal}
+use Rattle.refusals.specs.Refusals.{fault_of}
 
-unfoldable pub written_of : Written → Answer (Unit {0})
-written_of written.Accepted = accepted tt
-written_of (written.Refused n p) = refused (fault n p)
+unfoldable pub written_of : Result (Unit {0}) Refusal → Answer (Unit {0})
+written_of (Ok u) = accepted tt
+written_of (Err r) = refused (fault_of r)
 
 -- n bytes have room for the value, which is a text of length l or none
 unfoldable pub Room : ℕ → Wanted → ℕ → Type 0

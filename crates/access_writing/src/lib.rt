@@ -10,15 +10,9 @@ ghost use Rattle.access_writing.specs.Told.{Room, written_of};
 use access_causes::write_cause;
 use access_kinds::{Setting, is_inside};
 use maps::Wanted;
+use refusals::Refusal;
 use terms::Whole;
 use values::{put_number, put_text, put_whole};
-
-// Written, or the refusal.
-#[derive(Clone, Copy)]
-pub enum Written {
-    Accepted,
-    Refused { number: usize, place: usize },
-}
 
 // Fills the part with the value's bytes.
 pub fn put(part: &mut [u8], value: Wanted, string: &[u8])
@@ -54,22 +48,19 @@ pub fn store(
     window: &mut [u8],
     value: Wanted,
     string: &[u8],
-) -> Written
+) -> Result<(), Refusal>
     requires { Good content.now setting }
     ensures answer { written_of result ≡ first_cause (write_causes (window_of space first window.old) (wanted_of value string.now) (setting_is content.now setting)) }
     ensures after { window.new ≡ write_into (window_of space first window.old) (wanted_of value string.now) (setting_is content.now setting) }
 {
-    let length = window.len();
-    let inside = is_inside(setting, space, first, length);
-    let cause = write_cause(content, setting, inside, value, string);
-    if cause == 0 {
-        let from = (setting.address - first) as usize;
-        let to = from + setting.size;
-        put(&mut window[from..to], value, string);
-        return Written::Accepted;
-    }
-    Written::Refused {
-        number: cause,
-        place: 0,
+    let inside = is_inside(setting, space, first, window.len());
+    match write_cause(content, setting, inside, value, string) {
+        Some(number) => Err(Refusal { number, place: 0 }),
+        None => {
+            let from = (setting.address - first) as usize;
+            let to = from + setting.size;
+            put(&mut window[from..to], value, string);
+            Ok(())
+        }
     }
 }

@@ -92,13 +92,3 @@ unfolding Plain
 plain_negative v e = omega arith
 
 pub ruleset uncomplementing = (unsigned, lower_half, upper_half, plain_positive, plain_negative, rules)
-
--- ── in a part ──
-
-pub filled : (n : ℕ) {p : List ℕ} {v c : ℕ} → p ≡ bytes_of n v → v ≡ c → p ≡ bytes_of n c
-filled n e f = e ∙ ap (bytes_of n) f
-
-pub told : (r : Whole) (s : Bool) (n : ℕ) {v c : ℕ} → whole_of r ≡ uncomplement s n v → v ≡ c → whole_of r ≡ uncomplement s n c
-told r s n e f = e ∙ ap (uncomplement s n) f
-
-pub ruleset in_part = (filled, told, rules)

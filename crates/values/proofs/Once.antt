@@ -6,13 +6,12 @@ use Prim.Native.Nat.{ℕ, zero, suc, ◌<◌}
 use native.Mathlib.Omega.{arith}
 use lib.IntN.{ℤ, pos, negsuc, nat_abs}
 use lib.ListN.{length}
+use Rattle.std.specs.Prelude.{Option, Some, None}
 use Rattle.cdi.specs.Text.{zero_from}
 use Rattle.cdi.specs.Values.{with_sign, bytes_of, value_of, complement, uncomplement, padded}
 use Rattle.cdi.proofs.Quiet.{impossible}
 use Rattle.terms.specs.declared.Whole.{Whole}
 use Rattle.terms.specs.Wholes.{whole_of, Plain}
-use Rattle.values.specs.declared.Zero.{Zero}
-use Rattle.values.specs.declared.Zero.TheVariants.{At, Missing}
 use Rattle.values.specs.Held.{zero_at}
 
 module _ {A : Type 0} {x r q : A} where
@@ -64,12 +63,12 @@ whole_in_once s p r q e h f k = alike r q h k (once e f)
 
 -- ── the first zero ──
 
-zero_alike : (r q : Zero) → zero_at r ≡ zero_at q → r ≡ q
+zero_alike : (r q : Option ℕ) → zero_at r ≡ zero_at q → r ≡ q
 unfolding zero_at
-zero_alike (At i) (At j) e = let f : i ≡ j = cc in ap At f
-zero_alike (At i) Missing e = impossible (cc)
-zero_alike Missing (At j) e = impossible (cc)
-zero_alike Missing Missing e = refl
+zero_alike (Some i) (Some j) e = let f : i ≡ j = cc in ap Some f
+zero_alike (Some i) None e = impossible (cc)
+zero_alike None (Some j) e = impossible (cc)
+zero_alike None None e = refl
 
-pub first_zero_once : (s : List ℕ) (r q : Zero) → zero_at r ≡ zero_from 0 s → zero_at q ≡ zero_from 0 s → r ≡ q
+pub first_zero_once : (s : List ℕ) (r q : Option ℕ) → zero_at r ≡ zero_from 0 s → zero_at q ≡ zero_from 0 s → r ≡ q
 first_zero_once s r q e f = zero_alike r q (once e f)

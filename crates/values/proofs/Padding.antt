@@ -1,87 +1,26 @@
--- Text with zeros behind it, and the first zero.
-use mathlib.Core.Path.{◌≡◌, refl, sym, ap, ◌∙◌}
-use mathlib.Core.List.{List, [], ◌∷◌, ◌++◌}
-use Prim.Native.Nat.{ℕ, suc, zero, ◌+◌, ◌-◌, ◌≤◌, ◌<◌}
-use native.Mathlib.Numerals.{add-one}
-use native.Mathlib.Omega.{arith}
-use borrow.Author.Rules.{rules}
-use borrow.Author.Tests.{eq-eqb, ne_eqb}
-use lib.ListN.{length, take, drop, get_or, set, replicate, length-set, length-append, length-replicate, drop_of_length-le}
-use lib.Seq.{take-suc, take-suc-set, take_all}
+-- The first zero of a part.
+use mathlib.Core.Path.{◌≡◌, refl, ap, ◌∙◌}
+use mathlib.Core.List.{List, [], ◌∷◌}
+use mathlib.Core.Bool.{Bool, true, false, cond}
+use Prim.Native.Nat.{ℕ, ◌+◌}
+use lib.Dec.{eqb}
+use Rattle.std.specs.Prelude.{Some}
+use Rattle.std.specs.List.{position, position_from}
+use Rattle.std.proofs.Math.Option.{some}
+use Rattle.std.proofs.lemmas.Iterator.Adapters.{position_from-zero}
 use Rattle.cdi.specs.Text.{zero_from}
-use Rattle.cdi.specs.Values.{padded}
-use Rattle.scan.proofs.Along.{drop_next}
-use Rattle.values.specs.declared.Zero.TheVariants.{At, Missing}
 use Rattle.values.specs.Held.{zero_at}
 
--- ── padding ──
+zero_from_place : (i : ℕ) (s : List ℕ) → zero_at (position_from (λ b. eqb b 0) i s) ≡ zero_from i s
+unfolding zero_at zero_from
+zero_from_place i [] = refl
+zero_from_place i (b ∷ s) = by (eqb b 0) (zero_from_place (i + 1) s)
+  where
+    by : (x : Bool) → zero_at (position_from (λ b. eqb b 0) (i + 1) s) ≡ zero_from (i + 1) s
+        → zero_at (cond x (Some i) (position_from (λ b. eqb b 0) (i + 1) s)) ≡ cond x (some i) (zero_from (i + 1) s)
+    by true h = refl
+    by false h = h
 
-zero_in : (k i : ℕ) → ◌≡◌ {A = ℕ} (get_or (replicate k 0) i 0) 0
-zero_in zero i = refl
-zero_in (suc k) zero = refl
-zero_in (suc k) (suc i) = zero_in k i
-
--- behind the text stand zeros
-letter : (s : List ℕ) (k i : ℕ) → get_or (s ++ replicate k 0) i 0 ≡ get_or s i 0
-letter [] k i = zero_in k i
-letter (b ∷ s) k zero = refl
-letter (b ∷ s) k (suc i) = letter s k i
-
-padded_length : (n : ℕ) (s : List ℕ) → length s ≤ n → length (padded n s) ≡ n
-unfolding padded
-padded_length n s h = length-append s (replicate (n - length s) 0) ∙ omega (arith, length-replicate {A = ℕ} (n - length s) 0)
-
-padded_letter : (n : ℕ) (s : List ℕ) (i : ℕ) → get_or (padded n s) i 0 ≡ get_or s i 0
-unfolding padded
-padded_letter n s i = letter s (n - length s) i
-
--- the first i bytes are those of the padded text
-pub record Padded (n : ℕ) (s part : List ℕ) (i : ℕ) : Type 0 where
-  pub is : take i part ≡ take i (padded n s)
-  pub size : length part ≡ n
-
-pub none_padded : (s part : List ℕ) → Padded (length part) s part 0
-none_padded s part = record { is = refl; size = refl }
-
-module _ {n : ℕ} {s part : List ℕ} {i : ℕ} (v : Padded n s part i) (h : length s ≤ n) where
-  pub one_padded : {x : ℕ} → i < length part → x ≡ get_or s i 0 → Padded n s (set part i x) (i + 1)
-  one_padded {x} l e =
-      let y : get_or (padded n s) i 0 ≡ x = padded_letter n s i ∙ sym e in
-      record {
-        is =
-            rw add-one
-            (take-suc-set part i x l
-            ∙ ap (λ (t : List ℕ). t ++ (x ∷ [])) v.is
-            ∙ ap (λ (z : ℕ). take i (padded n s) ++ (z ∷ [])) (sym y)
-            ∙ sym (take-suc (padded n s) i 0 (omega (arith, padded_length n s h, v.size))));
-        size = length-set part i x ∙ v.size;
-      }
-
-  pub all_padded : length part ≤ i → part ≡ padded n s
-  all_padded l =
-      sym (take_all i part l) ∙ v.is ∙ take_all i (padded n s) (omega (arith, padded_length n s h, v.size))
-
-pub ruleset padding = (none_padded, one_padded, all_padded, rules)
-
--- ── the first zero ──
-
-pub record Unzeroed (s : List ℕ) (i : ℕ) : Type 0 where
-  pub left : zero_from 0 s ≡ zero_from i (drop i s)
-
-pub no_zero_yet : (s : List ℕ) → Unzeroed s 0
-no_zero_yet s = record { left = refl }
-
-module _ {s : List ℕ} {i : ℕ} (v : Unzeroed s i) where
-  pub zero_here : i < length s → get_or s i 0 ≡ 0 → zero_at (At i) ≡ zero_from 0 s
-  unfolding zero_at zero_from
-  zero_here h e = sym (v.left ∙ rw (drop_next s i h, eq-eqb _ _ e))
-
-  pub zero_not_here : i < length s → (get_or s i 0 ≡ 0 → ⊥) → Unzeroed s (i + 1)
-  unfolding zero_from
-  zero_not_here h e = record { left = v.left ∙ rw (drop_next s i h, ne_eqb _ _ e) }
-
-  pub zero_nowhere : length s ≤ i → zero_at Missing ≡ zero_from 0 s
-  unfolding zero_at zero_from
-  zero_nowhere h = sym (v.left ∙ rw (drop_of_length-le s h))
-
-pub ruleset zeroing = (no_zero_yet, zero_here, zero_not_here, zero_nowhere, rules)
+-- the first byte that is zero
+pub zero_placed : (s : List ℕ) → zero_at (position (λ b. eqb b 0) s) ≡ zero_from 0 s
+zero_placed s = ap zero_at (position_from-zero (λ b. eqb b 0) s) ∙ zero_from_place 0 s

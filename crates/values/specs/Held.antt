@@ -1,9 +1,8 @@
 -- What the code's answers mean.
 use Rattle.std.proofs.Math.Option.{Option, none, some}
-use Rattle.std.specs.Prelude.{ℕ}
-use Rattle.values.specs.declared.Zero.{Zero}
-use Rattle.values.specs.declared.Zero.TheVariants.{At, Missing}
+use Rattle.std.specs.Prelude as std
+use Rattle.std.specs.Prelude.{ℕ, Some, None}
 
-unfoldable pub zero_at : Zero → Option ℕ
-zero_at (At i) = some i
-zero_at Missing = none
+unfoldable pub zero_at : std.Option ℕ → Option ℕ
+zero_at (Some i) = some i
+zero_at None = none

@@ -7,15 +7,7 @@ ghost use Rattle.cdi.specs.Values.{bytes_of, value_of as number_of, complement, 
 ghost use Rattle.terms.specs.Wholes.{whole_of, Plain};
 ghost use Rattle.values.specs.Held.{zero_at};
 
-use scan::byte_at;
 use terms::Whole;
-
-// The first zero byte.
-#[derive(Clone, Copy)]
-pub enum Zero {
-    At(usize),
-    Missing,
-}
 
 // ── numbers ──
 
@@ -24,11 +16,9 @@ pub fn put_number(part: &mut [u8], number: u64)
     ensures { part.new ≡ bytes_of (length part.old) number }
 {
     let mut left = number;
-    let mut i = part.len();
-    while 0 < i {
-        i -= 1;
+    for i in (0..part.len()).rev() {
         part[i] = (left % 256) as u8;
-        left = left / 256;
+        left /= 256;
     }
 }
 
@@ -37,7 +27,7 @@ fn with_byte(number: u64, b: u8) -> u64
     requires { number < 2 ^ 56 }
     ensures { (result ≡ number * 256 + b) × (b < 256) }
 {
-    number * 256 + b as u64
+    number * 256 + u64::from(b)
 }
 
 // The number that the part holds.
@@ -45,11 +35,9 @@ pub fn number_in(part: &[u8]) -> u64
     requires { length part.now ≤ 8 }
     ensures { (result ≡ number_of part.now) × (result < 256 ^ length part.now) }
 {
-    let mut number: u64 = 0;
-    let mut i = 0;
-    while i < part.len() {
-        number = with_byte(number, part[i]);
-        i += 1;
+    let mut number = 0;
+    for b in part {
+        number = with_byte(number, *b);
     }
     number
 }
@@ -61,11 +49,9 @@ fn largest(size: usize) -> u64
     requires { size ≤ 8 }
     ensures { result + 1 ≡ 256 ^ size }
 {
-    let mut most: u64 = 0;
-    let mut i = 0;
-    while i < size {
+    let mut most = 0;
+    for _ in 0..size {
         most = with_byte(most, 255);
-        i += 1;
     }
     most
 }
@@ -75,13 +61,13 @@ fn complement_of(size: usize, whole: Whole) -> u64
     requires { (size ≤ 8) × (whole.magnitude ≤ 256 ^ size) }
     ensures { result ≡ complement size (whole_of whole) }
 {
-    if whole.negative {
-        if whole.magnitude == 0 {
-            return 0;
-        }
-        return largest(size) - (whole.magnitude - 1);
+    if !whole.negative {
+        whole.magnitude
+    } else if whole.magnitude == 0 {
+        0
+    } else {
+        largest(size) - (whole.magnitude - 1)
     }
-    whole.magnitude
 }
 
 // Fills the part with a whole number that fits.
@@ -98,18 +84,17 @@ fn uncomplemented(size: usize, signed: bool, number: u64) -> Whole
     requires { (1 ≤ size) × (size ≤ 8) × (number < 256 ^ size) }
     ensures { (whole_of result ≡ uncomplement signed size number) × Plain result }
 {
-    if signed {
-        let most = largest(size);
-        if most / 2 < number {
-            return Whole {
-                negative: true,
-                magnitude: most - number + 1,
-            };
+    let most = largest(size);
+    if signed && most / 2 < number {
+        Whole {
+            negative: true,
+            magnitude: most - number + 1,
         }
-    }
-    Whole {
-        negative: false,
-        magnitude: number,
+    } else {
+        Whole {
+            negative: false,
+            magnitude: number,
+        }
     }
 }
 
@@ -125,27 +110,19 @@ pub fn whole_in(part: &[u8], signed: bool) -> Whole
 // ── text ──
 
 // Fills the part with the text and zeros behind it.
+#[tactic(auto, unfolding(cdi::specs::Values::padded))]
 pub fn put_text(part: &mut [u8], text: &[u8])
     requires { length text.now ≤ length part.old }
     ensures { part.new ≡ padded (length part.old) text.now }
 {
-    let mut i = 0;
-    while i < part.len() {
-        part[i] = byte_at(text, i);
-        i += 1;
-    }
+    let (front, back) = part.split_at_mut(text.len());
+    front.copy_from_slice(text);
+    back.fill(0);
 }
 
 // Where the part has its first zero.
-pub fn first_zero(part: &[u8]) -> Zero
+pub fn first_zero(part: &[u8]) -> Option<usize>
     ensures { zero_at result ≡ zero_from 0 part.now }
 {
-    let mut i = 0;
-    while i < part.len() {
-        if part[i] == 0 {
-            return Zero::At(i);
-        }
-        i += 1;
-    }
-    Zero::Missing
+    part.iter().position(|b| *b == 0)
 }

@@ -10,16 +10,16 @@ returns-in_default-clause-at c = search reading_text
 
 pub overflow_add-behind : goal.overflow_add-behind
 overflow_add-behind c = let a = c.args in
-    omega (arith, zero_inside a.content.now a.setting a.inside a.window.now a.from a.to c.requires.1 _ c.first_zero.ensures c.requires.3 c.in-At.is)
+    omega (arith, zero_inside a.content.now a.setting a.inside a.window.now a.from a.to c.requires.1 _ c.first_zero.ensures c.requires.3 c.in-Some.is)
 
-pub slice_bounds-is_utf8-end : goal.slice_bounds-is_utf8-end
-slice_bounds-is_utf8-end c = search reading_text
+pub slice_bounds-text-end : goal.slice_bounds-text-end
+slice_bounds-text-end c = search reading_text
 
-pub returns-then-is_utf8-clause-is : goal.returns-then-is_utf8-clause-is
-returns-then-is_utf8-clause-is c = search reading_text
+pub returns-then-not-is_utf8-clause-is : goal.returns-then-not-is_utf8-clause-is
+returns-then-not-is_utf8-clause-is c = search reading_text
 
-pub returns-then-is_utf8-clause-at : goal.returns-then-is_utf8-clause-at
-returns-then-is_utf8-clause-at c = search reading_text
+pub returns-then-not-is_utf8-clause-at : goal.returns-then-not-is_utf8-clause-at
+returns-then-not-is_utf8-clause-at c = search reading_text
 
 pub returns-clause-is : goal.returns-clause-is
 returns-clause-is c = search reading_text

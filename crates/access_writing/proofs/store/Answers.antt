@@ -7,7 +7,7 @@ overflow_sub-from c = search storing
 
 pub overflow_add-to : goal.overflow_add-to
 overflow_add-to c = let a = c.args in
-    omega (arith, to_inside a.content.now c.requires a.space a.first a.window.now a.value a.string.now c.is_inside-inside.ensures c.write_cause-cause.ensures c.if-cause-eq0.true, c.well_formed.1.1.1.1.0)
+    omega (arith, to_inside a.content.now c.requires a.space a.first a.window.now a.value a.string.now c.is_inside-inside.ensures c.write_cause.ensures c.in-None.is, c.well_formed.1.1.1.1.0)
 
 pub slice_bounds-put-end : goal.slice_bounds-put-end
 slice_bounds-put-end c = search storing
@@ -15,14 +15,14 @@ slice_bounds-put-end c = search storing
 pub put-requires : goal.put-requires
 put-requires c = search storing
 
-pub returns-then-cause-eq0-clause-answer : goal.returns-then-cause-eq0-clause-answer
-returns-then-cause-eq0-clause-answer c = search storing
+pub returns-in-Some-clause-answer : goal.returns-in-Some-clause-answer
+returns-in-Some-clause-answer c = search storing
 
-pub returns-then-cause-eq0-clause-after : goal.returns-then-cause-eq0-clause-after
-returns-then-cause-eq0-clause-after c = search storing
+pub returns-in-Some-clause-after : goal.returns-in-Some-clause-after
+returns-in-Some-clause-after c = search storing
 
-pub returns-clause-answer : goal.returns-clause-answer
-returns-clause-answer c = search storing
+pub returns-in-None-clause-answer : goal.returns-in-None-clause-answer
+returns-in-None-clause-answer c = search storing
 
-pub returns-clause-after : goal.returns-clause-after
-returns-clause-after c = search storing
+pub returns-in-None-clause-after : goal.returns-in-None-clause-after
+returns-in-None-clause-after c = search storing
