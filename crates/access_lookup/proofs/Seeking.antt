@@ -41,7 +41,6 @@ use Rattle.access_kinds.specs.Told.{setting_is}
 use Rattle.access_kinds.specs.declared.Setting.{Setting}
 use Rattle.refusals.specs.declared.Refusal.{Refusal}
 use Rattle.refusals.specs.Refusals.{refusal}
-use Rattle.std.specs.Prelude.{Ok, Err}
 
 -- ── what was checked ──
 
