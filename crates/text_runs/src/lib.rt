@@ -76,14 +76,14 @@ fn run<T: Test>(s: &[u8], at: usize) -> usize
     ensures { (at ≤ result) × (result ≤ length s.now) × AllOf T.passing s.now at result }
 {
     let mut i = at;
-    loop {
+    'run: loop {
         if s.len() - i < STEP {
-            return i;
+            break i;
         }
         if !all_of_eight::<T>(s, i) {
             for k in i..i + STEP {
                 if !T::passes(s[k]) {
-                    return k;
+                    break 'run k;
                 }
             }
         }

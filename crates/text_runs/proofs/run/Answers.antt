@@ -3,8 +3,8 @@ use Rattle.text_runs.proofs.Running.{nothing_yet, behind, grown, cut_to}
 use Rattle.text_runs.proofs.run.Goals as goal
 use Rattle.text_runs.proofs.run.Goals.{then-not-all_of_eight+else-loop-k-test, else-not-all_of_eight}
 
-pub loop-i-init : goal.loop-i-init
-loop-i-init g c = (omega arith, c.requires, nothing_yet _)
+pub run-init : goal.run-init
+run-init g c = (omega arith, c.requires, nothing_yet _)
 
 pub returns-then-s-i-lt-STEP : goal.returns-then-s-i-lt-STEP
 returns-then-s-i-lt-STEP g c = search rules
@@ -15,9 +15,9 @@ returns-then-not-passes g c = search rules
 pub loop-k-preserved : goal.loop-k-preserved
 loop-k-preserved g c = grown c.loop-k.invariant c.passes.ensures c.if-not-passes.false
 
-pub loop-i-preserved : goal.loop-i-preserved
-loop-i-preserved g c =
+pub run-preserved : goal.run-preserved
+run-preserved g c =
     elim c.if-not-all_of_eight.branch [
       | then-not-all_of_eight+else-loop-k-test w ↦ (omega arith, omega arith, cut_to w.loop-k.invariant w.loop-k-test.false)
-      | else-not-all_of_eight w ↦ (omega arith, omega arith, behind c.loop-i.invariant.2 (c.all_of_eight.ensures w.if-not-all_of_eight.false))
+      | else-not-all_of_eight w ↦ (omega arith, omega arith, behind c.run.invariant.2 (c.all_of_eight.ensures w.if-not-all_of_eight.false))
     ]
