@@ -1,22 +1,18 @@
 // Frames that plan a text.
 
-ghost use Rattle.std.specs.Prelude.{◌≤◌};
+ghost use Rattle.std.specs.Prelude.{◌≤◌, IfSome};
 
-use answers_out::lines::{Line, bad, hashed, refused, two};
+use answers_out::lines::{Line, hashed, refused, two};
 use answers_out::words;
-use frames::Field;
 use frames_hash::hash;
-use frames_signed::signed;
 use plan::plan;
 use plan_stages::Planned;
 use refusals::Refusal;
 
 // The table that is lent: number i holds -7 - i.
 fn fill(table: &mut [i64]) {
-    let mut i = 0;
-    while i < table.len() {
-        table[i] = signed(std::num::wrapping_sub_u64(0xFFFF_FFFF_FFFF_FFF9, i as u64));
-        i += 1;
+    for (i, number) in table.iter_mut().enumerate() {
+        *number = -7 - i as i64;
     }
 }
 
@@ -40,20 +36,13 @@ fn planned(text: &[u8], table: &mut [i64]) -> Line
 }
 
 // The answer to a frame `P`: planning a text into a table of so many numbers.
-pub fn frame(text: &mut [u8], table: &mut [i64]) -> Line
-    ensures { result.count ≤ 4 }
+pub fn frame(text: &mut [u8], table: &mut [i64]) -> Option<Line>
+    ensures { IfSome result (λ line. line.count ≤ 4) }
 {
-    let Field::Is(numbers) = frames::read_number() else {
-        return bad();
-    };
+    let numbers = frames::read_number()?;
     if (table.len() as u64) < numbers {
-        return bad();
+        return None;
     }
-    let room = numbers as usize;
-    let part = frames::read_part(text);
-    if !part.whole {
-        return bad();
-    }
-    let size = part.size;
-    planned(&text[0..size], &mut table[0..room])
+    let size = frames::read_part(text)?;
+    Some(planned(&text[..size], &mut table[..numbers as usize]))
 }

@@ -1,9 +1,9 @@
 // Frames `J`: a session, its operations in order, each on what the one before left.
 
-ghost use Rattle.std.specs.Prelude.{◌≤◌};
+ghost use Rattle.std.specs.Prelude.{◌≤◌, IfSome};
 
 use answers_fields::{Asked, Held, journal_of, operation_count, read_operation};
-use answers_out::lines::{Line, bad, hashed, one, plain};
+use answers_out::lines::{Line, hashed, one, plain};
 use answers_out::outcomes::tell_outcomes;
 use answers_out::{tell, words};
 use frames_hash::{hash_bytes, with_number};
@@ -13,35 +13,23 @@ use undo_edit::Outcome;
 
 // ── operations ──
 
-// Number and place of a refusal, 0 and 0 without one, and the session value; and whether the operation was read.
+// Number and place of a refusal, 0 and 0 without one, and the session value.
 #[derive(Clone, Copy)]
 pub struct Done {
-    pub whole: bool,
     pub number: usize,
     pub place: usize,
     pub session: u64,
-}
-
-fn unread() -> Done {
-    Done {
-        whole: false,
-        number: 0,
-        place: 0,
-        session: 0,
-    }
 }
 
 // What a call says, and the session value: as before where it is refused.
 fn told(outcome: Outcome, before: u64) -> Done {
     match outcome {
         Outcome::Stands(session) => Done {
-            whole: true,
             number: 0,
             place: 0,
             session,
         },
         Outcome::Refused { number, place } => Done {
-            whole: true,
             number,
             place,
             session: before,
@@ -63,11 +51,10 @@ fn call(
     let n = asked.n;
     let space = held.space;
     let first = held.first;
-    if asked.kind == b'U' {
-        return undo(text, table, space, first, window, journal, session);
-    }
-    if asked.kind == b'I' {
-        return edit_integer(
+    let magnitude = asked.magnitude;
+    match asked.kind {
+        b'U' => undo(text, table, space, first, window, journal, session),
+        b'I' => edit_integer(
             text,
             table,
             n,
@@ -77,25 +64,15 @@ fn call(
             journal,
             session,
             asked.negative,
-            asked.magnitude,
-        );
+            magnitude,
+        ),
+        b'E' => edit_event(
+            text, table, n, space, first, window, journal, session, magnitude,
+        ),
+        _ => edit_text(
+            text, table, n, space, first, window, journal, session, bytes,
+        ),
     }
-    if asked.kind == b'E' {
-        return edit_event(
-            text,
-            table,
-            n,
-            space,
-            first,
-            window,
-            journal,
-            session,
-            asked.magnitude,
-        );
-    }
-    edit_text(
-        text, table, n, space, first, window, journal, session, bytes,
-    )
 }
 
 // The next operation; a text to be written is read into the lent buffer.
@@ -107,12 +84,8 @@ fn operation_by(
     journal: &mut [u8],
     session: u64,
     buffer: &mut [u8],
-) -> Done {
-    let asked = read_operation(buffer);
-    if !asked.whole {
-        return unread();
-    }
-    let size = asked.size;
+) -> Option<Done> {
+    let asked = read_operation(buffer)?;
     let outcome = call(
         text,
         table,
@@ -121,9 +94,9 @@ fn operation_by(
         window,
         journal,
         session,
-        &buffer[0..size],
+        &buffer[..asked.size],
     );
-    told(outcome, session)
+    Some(told(outcome, session))
 }
 
 // The next operation.
@@ -134,7 +107,7 @@ fn operation(
     window: &mut [u8],
     journal: &mut [u8],
     session: u64,
-) -> Done {
+) -> Option<Done> {
     let mut buffer = [0u8; 70000];
     operation_by(text, table, held, window, journal, session, &mut buffer)
 }
@@ -146,10 +119,9 @@ fn stepped(steps: u64, session: u64, window: &[u8], journal: &[u8]) -> u64 {
     with_number(with_window, signed(hash_bytes(journal)))
 }
 
-// The session value and the steps in the end; and whether all operations were read.
+// The session value and the steps in the end.
 #[derive(Clone, Copy)]
 pub struct Left {
-    pub whole: bool,
     pub session: u64,
     pub steps: u64,
 }
@@ -165,32 +137,22 @@ fn operations(
     count: usize,
     numbers: &mut [usize; 1000],
     places: &mut [usize; 1000],
-) -> Left
+) -> Option<Left>
     requires { count ≤ 1000 }
 {
     let mut stands = session;
     let mut steps = hash_bytes(b"");
-    let mut i = 0;
-    while i < count {
-        let done = operation(text, table, held, window, journal, stands);
-        if !done.whole {
-            return Left {
-                whole: false,
-                session: 0,
-                steps: 0,
-            };
-        }
+    for i in 0..count {
+        let done = operation(text, table, held, window, journal, stands)?;
         numbers[i] = done.number;
         places[i] = done.place;
         stands = done.session;
         steps = stepped(steps, stands, window, journal);
-        i += 1;
     }
-    Left {
-        whole: true,
+    Some(Left {
         session: stands,
         steps,
-    }
+    })
 }
 
 // ── the line ──
@@ -213,9 +175,9 @@ fn answered(
     journal: &mut [u8],
     session: u64,
     count: usize,
-) -> Line
+) -> Option<Line>
     requires { count ≤ 1000 }
-    ensures { result.count ≤ 4 }
+    ensures { IfSome result (λ line. line.count ≤ 4) }
 {
     let mut numbers = [0usize; 1000];
     let mut places = [0usize; 1000];
@@ -229,13 +191,10 @@ fn answered(
         count,
         &mut numbers,
         &mut places,
-    );
-    if !left.whole {
-        return bad();
-    }
+    )?;
     tell(plain(words::SESSION));
     tell_outcomes(&numbers, &places, count);
-    state(left, window, journal)
+    Some(state(left, window, journal))
 }
 
 // The rest of a frame behind its window; the journal is read into the lent buffer.
@@ -245,32 +204,25 @@ fn from_journal(
     held: Held,
     window: &mut [u8],
     journal: &mut [u8],
-) -> Line
-    ensures { result.count ≤ 4 }
+) -> Option<Line>
+    ensures { IfSome result (λ line. line.count ≤ 4) }
 {
-    let kept = journal_of(journal);
-    if !kept.whole {
-        return bad();
-    }
-    let asked = operation_count();
-    if 1000 < asked {
-        return bad();
-    }
-    let size = kept.journal;
+    let kept = journal_of(journal)?;
+    let count = operation_count()?;
     answered(
         text,
         table,
         held,
         window,
-        &mut journal[0..size],
+        &mut journal[..kept.journal],
         kept.session,
-        asked,
+        count,
     )
 }
 
 // The rest of a frame `J` behind its window. The journal's buffer is as long as a frame may ask.
-pub fn session(text: &[u8], table: &[i64], held: Held, window: &mut [u8]) -> Line
-    ensures { result.count ≤ 4 }
+pub fn session(text: &[u8], table: &[i64], held: Held, window: &mut [u8]) -> Option<Line>
+    ensures { IfSome result (λ line. line.count ≤ 4) }
 {
     let mut journal = [0u8; 70000];
     from_journal(text, table, held, window, &mut journal)

@@ -1,10 +1,9 @@
 // Frames that ask of a table alone.
 
-ghost use Rattle.std.specs.Prelude.{◌≤◌};
+ghost use Rattle.std.specs.Prelude.{◌≤◌, IfSome};
 
-use answers_out::lines::{Line, bad, four, plain, refused};
+use answers_out::lines::{Line, four, plain, refused};
 use answers_out::{tell, tell_kind, words};
-use frames::Field;
 use locate::{Absent, locate};
 
 // `found RECORD SPACE ADDRESS SIZE KIND`, or `refused 20 0`, `refused 21 0`
@@ -29,16 +28,10 @@ fn located(table: &[i64], n: u64) -> Line
 }
 
 // The answer to a frame `L`: locating in a table.
-pub fn frame(table: &mut [i64], text: &mut [u8]) -> Line
-    ensures { result.count ≤ 4 }
+pub fn frame(table: &mut [i64], text: &mut [u8]) -> Option<Line>
+    ensures { IfSome result (λ line. line.count ≤ 4) }
 {
-    let part = frames::read_numbers(table, text);
-    if !part.whole {
-        return bad();
-    }
-    let Field::Is(n) = frames::read_number() else {
-        return bad();
-    };
-    let size = part.size;
-    located(&table[0..size], n)
+    let size = frames::read_numbers(table, text)?;
+    let n = frames::read_number()?;
+    Some(located(&table[..size], n))
 }

@@ -18,7 +18,7 @@ fn flagged(line: Line, writable: bool) -> Line
 
 // Writes `text HEX`, with `-` for no bytes.
 fn spell(bytes: &[u8]) {
-    tell(plain(either(bytes.len() == 0, words::NO_TEXT, words::TEXT)));
+    tell(plain(either(bytes.is_empty(), words::NO_TEXT, words::TEXT)));
     tell_bytes(bytes);
 }
 

@@ -1,11 +1,11 @@
 // Answers to writing.
 
-ghost use Rattle.std.specs.Prelude.{◌≤◌};
+ghost use Rattle.std.specs.Prelude.{◌≤◌, IfSome};
 
 use access::{write_event, write_integer, write_text};
 use access_writing::Written;
 use answers_fields::{Asked, Held, read_value};
-use answers_out::lines::{Line, bad, hashed, plain, refused};
+use answers_out::lines::{Line, hashed, plain, refused};
 use answers_out::words;
 use frames_hash::hash_bytes;
 
@@ -58,21 +58,24 @@ fn writing_by(
     held: Held,
     window: &mut [u8],
     buffer: &mut [u8],
-) -> Line
-    ensures { result.count ≤ 4 }
+) -> Option<Line>
+    ensures { IfSome result (λ line. line.count ≤ 4) }
 {
-    let asked = read_value(first, n, buffer);
-    if !asked.whole {
-        return bad();
-    }
-    let size = asked.size;
-    let answer = write(text, table, asked, held, window, &buffer[0..size]);
-    hashed(told(answer), hash_bytes(window))
+    let asked = read_value(first, n, buffer)?;
+    let answer = write(text, table, asked, held, window, &buffer[..asked.size]);
+    Some(hashed(told(answer), hash_bytes(window)))
 }
 
 // The rest of a frame `I`, `E` or `S`, and the hash of the whole window at the line's end.
-pub fn writing(first: u8, text: &[u8], table: &[i64], n: u64, held: Held, window: &mut [u8]) -> Line
-    ensures { result.count ≤ 4 }
+pub fn writing(
+    first: u8,
+    text: &[u8],
+    table: &[i64],
+    n: u64,
+    held: Held,
+    window: &mut [u8],
+) -> Option<Line>
+    ensures { IfSome result (λ line. line.count ≤ 4) }
 {
     let mut buffer = [0u8; 70000];
     writing_by(first, text, table, n, held, window, &mut buffer)

@@ -1,62 +1,55 @@
 // Frames `K` and `R`: a window stored in blocks, and a backup read back, each into an output of so much room.
 #![tactic(auto)]
 
-ghost use Rattle.std.specs.Prelude.{◌≤◌};
+ghost use Rattle.std.specs.Prelude.{◌≤◌, IfSome};
 
-use answers_out::lines::{Line, bad, hashed, one, refused, two};
+use answers_out::lines::{Line, hashed, one, refused, two};
 use answers_out::words;
 use backups_reading::{Read, restore};
-use backups_storing::{Stored, store};
-use frames::{Field, read_number, read_part};
+use backups_storing::store;
+use frames::{read_number, read_part};
 use frames_hash::hash_bytes;
+use refusals::Refusal;
 
 // ── the lent output ──
 
-// What stands at this place of the output before a call: (7 i + 3) mod 256.
-fn before(i: usize) -> u8 {
-    ((i % 256 * 7 + 3) % 256) as u8
-}
-
+// Byte i of the output before a call: (7 i + 3) mod 256.
 fn fill(output: &mut [u8]) {
-    let mut i = 0;
-    while i < output.len() {
-        output[i] = before(i);
-        i += 1;
+    for (i, b) in output.iter_mut().enumerate() {
+        *b = ((i % 256 * 7 + 3) % 256) as u8;
     }
 }
 
-// How many bytes the output has, or 80,001 where these are more than 80,000 or the number is cut off.
-fn room() -> usize
-    ensures { result ≤ 80001 }
+// How many bytes the output has: 80,000 at most.
+fn room() -> Option<usize>
+    ensures { IfSome result (λ n. n ≤ 80000) }
 {
-    let Field::Is(n) = read_number() else {
-        return 80001;
-    };
+    let n = read_number()?;
     if 80000 < n {
-        return 80001;
+        return None;
     }
-    n as usize
+    Some(n as usize)
 }
 
 // ── the lines ──
 
 // `stored LENGTH` or `refused NUMBER PLACE`
-fn tell_stored(answer: Stored) -> Line
+fn tell_stored(answer: Result<usize, Refusal>) -> Line
     ensures { result.count ≤ 4 }
 {
     match answer {
-        Stored::Size(size) => one(words::STORED, size as u64),
-        Stored::Refused { number, place } => refused(number, place),
+        Ok(size) => one(words::STORED, size as u64),
+        Err(refusal) => refused(refusal.number, refusal.place),
     }
 }
 
 // `restored LENGTH SPACE` or `refused NUMBER PLACE`
-fn tell_read(answer: Read) -> Line
+fn tell_read(answer: Result<Read, Refusal>) -> Line
     ensures { result.count ≤ 4 }
 {
     match answer {
-        Read::Window { size, space } => two(words::RESTORED, size as u64, space),
-        Read::Refused { number, place } => refused(number, place),
+        Ok(read) => two(words::RESTORED, read.size as u64, read.space),
+        Err(refusal) => refused(refusal.number, refusal.place),
     }
 }
 
@@ -79,39 +72,23 @@ fn restored(backup: &[u8], output: &mut [u8]) -> Line
 }
 
 // The rest of a frame `K`.
-pub fn frame_store(window: &mut [u8]) -> Line
-    ensures { result.count ≤ 4 }
+pub fn frame_store(window: &mut [u8]) -> Option<Line>
+    ensures { IfSome result (λ line. line.count ≤ 4) }
 {
     let mut output = [0u8; 80000];
-    let Field::Is(space) = read_number() else {
-        return bad();
-    };
-    let part = read_part(window);
-    if !part.whole {
-        return bad();
-    }
-    let asked = room();
-    if 80000 < asked {
-        return bad();
-    }
-    let size = part.size;
-    stored(space, &window[0..size], &mut output[0..asked])
+    let space = read_number()?;
+    let size = read_part(window)?;
+    let asked = room()?;
+    Some(stored(space, &window[..size], &mut output[..asked]))
 }
 
 // The rest of a frame `R`.
-pub fn frame_read() -> Line
-    ensures { result.count ≤ 4 }
+pub fn frame_read() -> Option<Line>
+    ensures { IfSome result (λ line. line.count ≤ 4) }
 {
     let mut backup = [0u8; 80000];
     let mut output = [0u8; 80000];
-    let part = read_part(&mut backup);
-    if !part.whole {
-        return bad();
-    }
-    let asked = room();
-    if 80000 < asked {
-        return bad();
-    }
-    let size = part.size;
-    restored(&backup[0..size], &mut output[0..asked])
+    let size = read_part(&mut backup)?;
+    let asked = room()?;
+    Some(restored(&backup[..size], &mut output[..asked]))
 }

@@ -1,12 +1,11 @@
 // Frames that ask for a single reading: the end of the content, characters, numbers, formatting, names, and the piece at a place.
 #![tactic(auto)]
 
-ghost use Rattle.std.specs.Prelude.{◌≤◌, ◌<◌, length};
+ghost use Rattle.std.specs.Prelude.{◌≤◌, ◌<◌, IfSome, length};
 
-use answers_out::lines::{Line, bad, either, ended, four, one, plain, refused, three, two};
+use answers_out::lines::{Line, either, ended, four, one, plain, refused, three, two};
 use answers_out::{tell, words};
 use formatting::is_formatting;
-use frames::Field;
 use names::{attribute_number, element_number};
 use numbers::read_number;
 use pieces::piece_at;
@@ -137,48 +136,35 @@ fn piece(s: &[u8], place: usize) -> Line
 }
 
 // The answer to a frame `C`: the piece at a place, which is read now.
-fn piece_frame(s: &[u8]) -> Line
-    ensures { result.count ≤ 4 }
+fn piece_frame(s: &[u8]) -> Option<Line>
+    ensures { IfSome result (λ line. line.count ≤ 4) }
 {
-    let Field::Is(place) = frames::read_number() else {
-        return bad();
-    };
+    let place = frames::read_number()?;
     if place < s.len() as u64 {
-        return piece(s, place as usize);
+        Some(piece(s, place as usize))
+    } else {
+        None
     }
-    bad()
 }
 
 // The answer to a frame, by its first byte.
-fn reading(first: u8, s: &[u8]) -> Line
-    ensures { result.count ≤ 4 }
+fn reading(first: u8, s: &[u8]) -> Option<Line>
+    ensures { IfSome result (λ line. line.count ≤ 4) }
 {
-    if first == b'C' {
-        return piece_frame(s);
+    match first {
+        b'C' => piece_frame(s),
+        b'Z' => Some(ending(s)),
+        b'U' => Some(characters(s)),
+        b'N' => Some(number(s)),
+        b'F' => Some(formatting(s)),
+        _ => Some(name(s)),
     }
-    if first == b'Z' {
-        return ending(s);
-    }
-    if first == b'U' {
-        return characters(s);
-    }
-    if first == b'N' {
-        return number(s);
-    }
-    if first == b'F' {
-        return formatting(s);
-    }
-    name(s)
 }
 
 // The answer to a frame that begins with bytes.
-pub fn frame(first: u8, text: &mut [u8]) -> Line
-    ensures { result.count ≤ 4 }
+pub fn frame(first: u8, text: &mut [u8]) -> Option<Line>
+    ensures { IfSome result (λ line. line.count ≤ 4) }
 {
-    let part = frames::read_part(text);
-    if !part.whole {
-        return bad();
-    }
-    let size = part.size;
-    reading(first, &text[0..size])
+    let size = frames::read_part(text)?;
+    reading(first, &text[..size])
 }

@@ -56,20 +56,14 @@ fn put_digits(out: &mut [u8], at: usize, n: u64, width: usize) -> usize
     put_all(out, at, &digits[..k])
 }
 
-fn wide(b: u8) -> u64 {
-    b as u64
-}
-
 // Two hexadecimal digits for each byte.
 fn put_bytes(out: &mut [u8], at: usize, bytes: &[u8]) -> usize
     requires { (at ≤ length out.old) × (64 ≤ length out.old) }
     ensures { result ≤ length out.old }
 {
     let mut to = at;
-    let mut i = 0;
-    while i < bytes.len() {
-        to = put_digits(out, to, wide(bytes[i]), 2);
-        i += 1;
+    for b in bytes {
+        to = put_digits(out, to, u64::from(*b), 2);
     }
     to
 }
@@ -113,20 +107,22 @@ fn put_hash(out: &mut [u8], at: usize, line: Line) -> usize
     requires { (at ≤ length out.old) × (64 ≤ length out.old) }
     ensures { result ≤ length out.old }
 {
-    if line.hashed {
-        let to = words::put(out, at, words::BLANK);
-        return put_digits(out, to, line.hash, 16);
+    match line.hash {
+        Some(hash) => {
+            let to = put_all(out, at, words::BLANK);
+            put_digits(out, to, hash, 16)
+        }
+        None => at,
     }
-    at
 }
 
 fn put_line(out: &mut [u8], line: Line) -> usize
     requires { 64 ≤ length out.old }
     ensures { result ≤ length out.old }
 {
-    let mut to = words::put(out, 0, line.word);
+    let mut to = put_all(out, 0, line.word);
     to = put_numbers(out, to, line);
-    to = words::put(out, to, line.last);
+    to = put_all(out, to, line.last);
     put_hash(out, to, line)
 }
 
@@ -141,7 +137,7 @@ pub fn tell(line: Line) {
 pub fn say(line: Line) {
     let mut out = [0u8; 256];
     let to = put_line(&mut out, line);
-    let end = words::put(&mut out, to, words::NEWLINE);
+    let end = put_all(&mut out, to, words::NEWLINE);
     flush(&out, end);
 }
 

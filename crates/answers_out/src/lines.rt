@@ -6,25 +6,22 @@ use crate::words;
 
 #[derive(Clone, Copy)]
 pub struct Line {
-    pub on: bool, // whether another frame may follow
-    pub word: usize,
+    pub word: &'static [u8],
     pub count: usize,
     pub a: u64,
     pub b: u64,
     pub c: u64,
     pub d: u64,
-    pub last: usize,
-    pub hashed: bool,
-    pub hash: u64,
+    pub last: &'static [u8],
+    pub hash: Option<u64>,
 }
 
 // A word and so many of the numbers.
-fn counted(word: usize, count: usize, a: u64, b: u64, c: u64, d: u64) -> Line
+fn counted(word: &'static [u8], count: usize, a: u64, b: u64, c: u64, d: u64) -> Line
     requires { count ≤ 4 }
     ensures { result.count ≤ 4 }
 {
     Line {
-        on: true,
         word,
         count,
         a,
@@ -32,41 +29,40 @@ fn counted(word: usize, count: usize, a: u64, b: u64, c: u64, d: u64) -> Line
         c,
         d,
         last: words::NOTHING,
-        hashed: false,
-        hash: 0,
+        hash: None,
     }
 }
 
 // A word alone.
-pub fn plain(word: usize) -> Line
+pub fn plain(word: &'static [u8]) -> Line
     ensures { result.count ≤ 4 }
 {
     counted(word, 0, 0, 0, 0, 0)
 }
 
 // A word and a number.
-pub fn one(word: usize, a: u64) -> Line
+pub fn one(word: &'static [u8], a: u64) -> Line
     ensures { result.count ≤ 4 }
 {
     counted(word, 1, a, 0, 0, 0)
 }
 
 // A word and two numbers.
-pub fn two(word: usize, a: u64, b: u64) -> Line
+pub fn two(word: &'static [u8], a: u64, b: u64) -> Line
     ensures { result.count ≤ 4 }
 {
     counted(word, 2, a, b, 0, 0)
 }
 
 // A word and three numbers.
-pub fn three(word: usize, a: u64, b: u64, c: u64) -> Line
+pub fn three(word: &'static [u8], a: u64, b: u64, c: u64) -> Line
     ensures { result.count ≤ 4 }
 {
     counted(word, 3, a, b, c, 0)
 }
 
 // A word and four numbers.
-pub fn four(word: usize, a: u64, b: u64, c: u64, d: u64) -> Line
+pub fn four(word: &'static [u8], a: u64, b: u64, c: u64, d: u64) -> Line
     ensures { result.count ≤ 4 }
 {
     counted(word, 4, a, b, c, d)
@@ -83,28 +79,15 @@ pub fn refused(number: usize, place: usize) -> Line
 pub fn bad() -> Line
     ensures { result.count ≤ 4 }
 {
-    Line {
-        on: false,
-        word: words::BAD_FRAME,
-        count: 0,
-        a: 0,
-        b: 0,
-        c: 0,
-        d: 0,
-        last: words::NOTHING,
-        hashed: false,
-        hash: 0,
-    }
+    plain(words::BAD_FRAME)
 }
 
 // The line with this word behind its numbers.
-pub fn ended(line: Line, last: usize) -> Line
+pub fn ended(line: Line, last: &'static [u8]) -> Line
     requires { line.count ≤ 4 }
     ensures { result.count ≤ 4 }
 {
-    let mut more = line;
-    more.last = last;
-    more
+    Line { last, ..line }
 }
 
 // The line with a hash at its end.
@@ -112,18 +95,15 @@ pub fn hashed(line: Line, hash: u64) -> Line
     requires { line.count ≤ 4 }
     ensures { result.count ≤ 4 }
 {
-    let mut more = line;
-    more.hashed = true;
-    more.hash = hash;
-    more
+    Line {
+        hash: Some(hash),
+        ..line
+    }
 }
 
 // One word or the other.
-pub fn either(first: bool, a: usize, b: usize) -> usize
-    ensures { result ≡ cond first a b }
+pub fn either(first: bool, a: &'static [u8], b: &'static [u8]) -> &'static [u8]
+    ensures { result.now ≡ cond first a.now b.now }
 {
-    if first {
-        return a;
-    }
-    b
+    if first { a } else { b }
 }

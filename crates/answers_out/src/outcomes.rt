@@ -6,7 +6,7 @@ use crate::lines::{either, ended, one, plain};
 use crate::{tell, words};
 
 // Writes a word, and `+` or `NUMBER.PLACE` behind it.
-fn tell_outcome(word: usize, number: usize, place: usize) {
+fn tell_outcome(word: &'static [u8], number: usize, place: usize) {
     if number == 0 {
         tell(ended(plain(word), words::STANDS));
         return;
@@ -22,10 +22,8 @@ pub fn tell_outcomes(numbers: &[usize; 1000], places: &[usize; 1000], count: usi
     if count == 0 {
         tell(plain(words::DASH));
     }
-    let mut i = 0;
-    while i < count {
+    for i in 0..count {
         let before = either(i == 0, words::NOTHING, words::COMMA);
         tell_outcome(before, numbers[i], places[i]);
-        i += 1;
     }
 }
