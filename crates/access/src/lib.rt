@@ -87,9 +87,7 @@ fn write(
             number: refusal.number,
             place: refusal.place,
         },
-        Ok(end) => write_known(
-            text, end, table, n, space, first, window, value, string,
-        ),
+        Ok(end) => write_known(text, end, table, n, space, first, window, value, string),
     }
 }
 
