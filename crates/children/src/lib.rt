@@ -1,5 +1,6 @@
 // The children of an element, by place: the next one, the place behind one, and the content of one by its name. A place stands for what is still to
 // come at its level, up to the end tag that closes the level.
+// The text and a place stay two parameters: `Part` and the tables keep places without the text, so each call would build the pair first.
 #![tactic(auto)]
 
 ghost use Rattle.std.specs.Prelude.{◌≡◌, ◌≤◌, ◌-◌, length};
@@ -92,7 +93,7 @@ pub fn behind(s: &[u8], at: usize) -> usize
     s.len()
 }
 
-// The place behind the element whose start tag this is.
+// The place behind the element whose start tag stands at this place.
 pub fn after(s: &[u8], child: Placed) -> usize
     requires { (Stands s.now child.place child.cut) × (child.cut.kind ≡ Start) × (2 ≤ length (ahead s.now child.place)) }
     ensures { Passed s.now child.place child.cut result }

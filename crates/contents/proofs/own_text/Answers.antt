@@ -1,4 +1,4 @@
-use Rattle.std.proofs.Common.{refl}
+use Rattle.std.proofs.Common.{refl, rules}
 use Rattle.children.proofs.Turning.{walk_here, walk_stands, walk_on, walk_out}
 use Rattle.contents.proofs.Owning.{own_out, same_on, own_other, own_run, own_more, run_deep, run_high}
 use Rattle.contents.proofs.own_text.Goals as goal
@@ -9,7 +9,9 @@ is_end-requires c =
     let w = c.loop-place.invariant in
     let g = c.in-Some.ensures.steps in
     let v = walk_stands w g in
-    (run_high (walk_here w g) v c.in-Run.ensures, run_deep (walk_here w g) v c.in-Run.ensures refl)
+    let high = run_high (walk_here w g) v c.in-Run.ensures in
+    let deep = run_deep (walk_here w g) v c.in-Run.ensures refl in
+    search rules
 
 pub returns-in-Run : goal.returns-in-Run
 returns-in-Run c =
