@@ -1,13 +1,15 @@
 -- The pattern of `formatting`, by each way through the code.
 use mathlib.Core.Path.{◌≡◌, refl, sym, ap, ◌∙◌}
 use mathlib.Core.List.{List, [], ◌∷◌}
-use mathlib.Core.Bool.{Bool, true, false}
+use mathlib.Core.Bool.{Bool, true, false, ◌&&◌}
 use mathlib.Core.Option.{none, some}
 use Prim.Native.Nat.{ℕ, ◌-◌}
-use native.Mathlib.Omega.{arith}
 use borrow.Author.Rules.{rules}
-use borrow.Author.Tests.{eq-eqb, ne_eqb}
-use lib.ListN.{length, take, drop, get_or}
+use borrow.Author.Tests.{eq-eqb, ne_eqb, eqb-true, eqb-false}
+use lib.Dec.{eqb}
+use lib.Pointwise.{pointwise}
+use Rattle.cdi.proofs.Quiet.{impossible}
+use lib.ListN.{length, take, drop}
 use Rattle.cdi.specs.Lists.{same, after, strip, begins}
 use Rattle.cdi.specs.Pieces.{digit}
 use Rattle.cdi.specs.Rules.{is_formatting}
@@ -18,20 +20,24 @@ use Rattle.scan.proofs.Spans.{span_rest}
 use Rattle.formatting.specs.Formatting.{is_fraction}
 
 -- one byte at the front, and what follows it
-strip_nothing : (x : ℕ) (s : List ℕ) → length s ≡ 0 → strip (x ∷ []) s ≡ none
-unfolding strip begins
-strip_nothing x [] h = refl
-strip_nothing x (b ∷ s) h = absurd (omega arith)
+module _ (x : ℕ) where
+  strip_other : (s : List ℕ) → pointwise eqb (take 1 s) (x ∷ []) ≡ false → strip (x ∷ []) s ≡ none
+  unfolding strip begins
+  strip_other [] e = refl
+  strip_other (b ∷ s) e = by (eqb b x) refl e
+    where
+      by : (t : Bool) → eqb b x ≡ t → (t && true) ≡ false → strip (x ∷ []) (b ∷ s) ≡ none
+      by true f g = impossible (cc)
+      by false f g = rw (ne_eqb x b (λ k. eqb-false b x f (sym k)))
 
-strip_byte : (x : ℕ) (s : List ℕ) → (length s ≡ 0 → ⊥) → get_or s 0 0 ≡ x → strip (x ∷ []) s ≡ some (drop 1 s)
-unfolding strip begins
-strip_byte x [] h e = absurd (h refl)
-strip_byte x (b ∷ s) h e = rw (eq-eqb x b (sym e))
-
-strip_other : (x : ℕ) (s : List ℕ) → (length s ≡ 0 → ⊥) → (get_or s 0 0 ≡ x → ⊥) → strip (x ∷ []) s ≡ none
-unfolding strip begins
-strip_other x [] h e = absurd (h refl)
-strip_other x (b ∷ s) h e = rw (ne_eqb x b (λ k. e (sym k)))
+  strip_byte : (s : List ℕ) → pointwise eqb (take 1 s) (x ∷ []) ≡ true → strip (x ∷ []) s ≡ some (drop 1 s)
+  unfolding strip begins
+  strip_byte [] e = impossible (cc)
+  strip_byte (b ∷ s) e = by (eqb b x) refl e
+    where
+      by : (t : Bool) → eqb b x ≡ t → (t && true) ≡ true → strip (x ∷ []) (b ∷ s) ≡ some (drop 1 (b ∷ s))
+      by true f g = rw (eq-eqb x b (sym (eqb-true b x f)))
+      by false f g = impossible (cc)
 
 -- what stands behind the digits from a place on
 behind : (s : List ℕ) (at : ℕ) {e : ℕ} → Span (of_class Decimal) s at e → take (length s - e) (drop e s) ≡ after digit (drop at s)
@@ -43,37 +49,23 @@ tail s word v f = f ∙ ap (λ l. same l word) (behind s 0 v)
 
 pub ruleset tails = (tail, rules)
 
-pub no_fraction : (s : List ℕ) → length s ≡ 0 → false ≡ is_fraction s
+pub no_fraction : (s : List ℕ) → pointwise eqb (take 1 s) (46 ∷ []) ≡ false → false ≡ is_fraction s
 unfolding is_fraction
-no_fraction s h = rw (strip_nothing 46 s h)
+no_fraction s e = rw (strip_other 46 s e)
 
-pub no_format : (s : List ℕ) → length s ≡ 0 → false ≡ is_formatting s
+pub fraction : (s : List ℕ) {t : List ℕ} {r : Bool} → pointwise eqb (take 1 s) (46 ∷ []) ≡ true → t ≡ drop 1 s → r ≡ same (after digit t) (102 ∷ []) → r ≡ is_fraction s
+unfolding is_fraction
+fraction s e f g = g ∙ rw (strip_byte 46 s e, f)
+
+pub no_format : (s : List ℕ) → pointwise eqb (take 1 s) (37 ∷ []) ≡ false → false ≡ is_formatting s
 unfolding is_formatting
-no_format s h = rw (strip_nothing 37 s h)
+no_format s e = rw (strip_other 37 s e)
 
-module _ (s : List ℕ) (h : length s ≡ 0 → ⊥) where
-  pub other_fraction : (get_or s 0 0 ≡ 46 → ⊥) → false ≡ is_fraction s
-  unfolding is_fraction
-  other_fraction e = rw (strip_other 46 s h e)
-
-  pub fraction : {r : Bool} → get_or s 0 0 ≡ 46 → r ≡ same (after digit (take (length s - 1) (drop 1 s))) (102 ∷ []) → r ≡ is_fraction s
-  unfolding is_fraction
-  fraction e f = f ∙ rw (strip_byte 46 s h e, rest s 1)
-
-  pub other_format : (get_or s 0 0 ≡ 37 → ⊥) → false ≡ is_formatting s
+module _ (s : List ℕ) {t : List ℕ} (e : pointwise eqb (take 1 s) (37 ∷ []) ≡ true) (f : t ≡ drop 1 s) {u : Bool} (g : u ≡ same (after digit t) (102 ∷ [])) where
+  pub plain_format : u ≡ true → u ≡ is_formatting s
   unfolding is_formatting
-  other_format e = rw (strip_other 37 s h e)
+  plain_format h = rw (strip_byte 37 s e, ← f, ← g, h)
 
-  module _ {t : Bool} (e : get_or s 0 0 ≡ 37) (f : t ≡ same (after digit (take (length s - 1) (drop 1 s))) (102 ∷ [])) where
-    short_tail : t ≡ same (after digit (drop 1 s)) (102 ∷ [])
-    short_tail = f ∙ ap (λ l. same (after digit l) (102 ∷ [])) (rest s 1)
-
-    pub plain_format : t ≡ true → true ≡ is_formatting s
-    unfolding is_formatting
-    plain_format g = rw (strip_byte 37 s h e, ← short_tail, g)
-
-    pub point_format : {k : ℕ} {r : Bool} → t ≡ false → Span (of_class Decimal) s 1 k → r ≡ is_fraction (take (length s - k) (drop k s)) → r ≡ is_formatting s
-    unfolding is_formatting is_fraction
-    point_format g v m = m ∙ rw (strip_byte 37 s h e, ← short_tail, g, behind s 1 v)
-
-pub ruleset formats = (no_fraction, no_format, other_fraction, fraction, other_format, plain_format, point_format, rules)
+  pub point_format : {k : ℕ} {r : Bool} → u ≡ false → Span (of_class Decimal) t 0 k → r ≡ is_fraction (take (length t - k) (drop k t)) → r ≡ is_formatting s
+  unfolding is_formatting is_fraction
+  point_format h v m = m ∙ rw (strip_byte 37 s e, ← f, ← g, h, behind t 0 v)

@@ -19,28 +19,19 @@ fn is_tail(s: &[u8]) -> bool
 fn is_fraction(rest: &[u8]) -> bool
     ensures { result ≡ is_fraction rest.now }
 {
-    if rest.len() == 0 {
+    let Some(tail) = rest.strip_prefix(b".") else {
         return false;
-    }
-    if rest[0] == b'.' {
-        return is_tail(&rest[1..]);
-    }
-    false
+    };
+    is_tail(tail)
 }
 
 // Is the value one that `formatting` may have?
 pub fn is_formatting(pattern: &[u8]) -> bool
     ensures { result ≡ is_formatting pattern.now }
 {
-    if pattern.len() == 0 {
+    let Some(tail) = pattern.strip_prefix(b"%") else {
         return false;
-    }
-    if pattern[0] == b'%' {
-        if is_tail(&pattern[1..]) {
-            return true;
-        }
-        let end = scan::span(pattern, 1, scan::Class::Decimal);
-        return is_fraction(&pattern[end..]);
-    }
-    false
+    };
+    let end = scan::span(tail, 0, scan::Class::Decimal);
+    is_tail(tail) || is_fraction(&tail[end..])
 }
