@@ -17,7 +17,7 @@ use Rattle.scan.specs.declared.Class.TheVariants.{Name as Names}
 use Rattle.scan.proofs.Along.{drop_next}
 use Rattle.scan.proofs.Tests.{eq_or_ne}
 use Rattle.scan.proofs.Spans.{span_here, span_rest}
-use Rattle.pieces_cuts.specs.Places.{part, Name, Beyond}
+use Rattle.pieces_cuts.specs.Places.{part, Name}
 
 -- one byte, and the part behind it
 pub part_cons : (s : List ℕ) (at e : ℕ) → at < e → at < length s → part s at e ≡ get_or s at 0 ∷ part s (at + 1) e
@@ -79,24 +79,21 @@ too_short w (x ∷ s) h = by (begins w (x ∷ s)) refl (too_short w s (omega ari
     by false e f = f
 
 module _ {w s : List ℕ} {at i : ℕ} (v : Seeking w s at i) where
-  pub seek_end : length s - i < length w → Beyond w s at 0
-  seek_end h = record { is = v.left ∙ too_short w (drop i s) (omega (arith, length-drop i s)); high = omega arith }
+  pub seek_end : length s - i < length w → beyond w (drop at s) ≡ none
+  seek_end h = v.left ∙ too_short w (drop i s) (omega (arith, length-drop i s))
 
-  module _ {r : Bool} (h : length w ≤ length s - i) (k : 0 < length w) (e : r ≡ begins w (drop i s)) where
+  module _ {r : Bool} (h : i < length s) (e : r ≡ begins w (drop i s)) where
     step : beyond w (drop at s) ≡ cond r (some (drop (length w) (drop i s))) (beyond w (drop (i + 1) s))
     unfolding beyond
-    step = v.left ∙ rw (e, drop_next s i (omega arith))
+    step = v.left ∙ rw (e, drop_next s i h)
 
-    pub found : r ≡ true → Beyond w s at (i + length w)
-    found f = record {
-      is = step ∙ rw (f, ne_eqb (i + length w) 0 (λ z. omega arith), drop-drop);
-      high = word_room s w i v.high e f;
-    }
+    pub found : r ≡ true → beyond w (drop at s) ≡ some (drop (i + length w) s)
+    found f = step ∙ rw (f, drop-drop)
 
     pub not_yet : r ≡ false → Seeking w s at (i + 1)
     not_yet f = record { left = step ∙ rw f; high = omega arith }
 
-pub ruleset find_loop = (seek, seek_end, found, not_yet, rules)
+pub ruleset find_loop = (seek, seek_end, found, word_room, not_yet, rules)
 
 -- what follows a word that was looked at
 pub stripped : (s w : List ℕ) (i : ℕ) {r : Bool} → r ≡ begins w (drop i s) → strip w (drop i s) ≡ cond r (some (drop (i + length w) s)) none

@@ -1,5 +1,5 @@
 -- What the places mean that the readers of names, words and attributes answer.
-use Rattle.std.specs.Prelude.{◌≡◌, List, [], Bool, true, false, cond, ℕ, ◌+◌, ◌-◌, ◌≤◌, length, take, drop, get_or, eqb, ltb}
+use Rattle.std.specs.Prelude.{◌≡◌, List, [], Bool, true, false, cond, ℕ, ◌+◌, ◌-◌, ◌≤◌, ◌<◌, length, take, drop, get_or, eqb, ltb, Option as Maybe, MatchOption}
 use Rattle.std.proofs.Math.Option.{Option, none, some}
 use Rattle.cdi.specs.Lists.{ascii, after, begins, beyond}
 use Rattle.cdi.specs.Pieces.{Attribute, blank, name_at, quoted, attribute_at, attributes, tag_end}
@@ -16,10 +16,9 @@ pub record Name (s : List ℕ) (at r : ℕ) : Type 0 where
   pub low : at ≤ r
   pub high : r ≤ length s
 
--- r stands behind the first such word from a place on, or is 0 where there is none
-pub record Beyond (w s : List ℕ) (at r : ℕ) : Type 0 where
-  pub is : beyond w (drop at s) ≡ cond (eqb r 0) none (some (drop r s))
-  pub high : r ≤ length s
+-- r is the place behind the first such word from a place on, or none where there is none
+abbrev pub Beyond : List ℕ → List ℕ → ℕ → Maybe ℕ → Type 0
+Beyond w s at r = MatchOption r (beyond w (drop at s) ≡ none) (λ e. (beyond w (drop at s) ≡ some (drop e s)) × (0 < e) × (e ≤ length s))
 
 -- ── attributes ──
 

@@ -17,7 +17,7 @@ use Rattle.scan.specs.Spans.{of_class, span_end, Span}
 use Rattle.scan.specs.declared.Class.TheVariants.{Blank, Text as Texts}
 use Rattle.scan.proofs.Along.{drop_next}
 use Rattle.scan.proofs.Spans.{span_here, span_rest}
-use Rattle.pieces_cuts.specs.Places.{part, Name, Beyond}
+use Rattle.pieces_cuts.specs.Places.{part, Name}
 use Rattle.pieces_cuts.specs.Cuts.{piece_of, before, name_of, text_of, code_of, short_of, refers_of, Cuts}
 use Rattle.pieces_cuts.specs.declared.Kind.TheVariants.{Finish, Text}
 use Rattle.pieces_cuts.proofs.Finding.{stripped, room_one}
@@ -25,15 +25,15 @@ use Rattle.pieces_cuts.proofs.Making.{nothing, something}
 
 -- ── comments ──
 
-module _ (s : List ℕ) {t : ℕ} (v : Beyond (45 ∷ 45 ∷ []) s 4 t) where
-  pub endless : t ≡ 0 → comment (drop 4 s) ≡ none
+module _ (s : List ℕ) where
+  pub endless : beyond (45 ∷ 45 ∷ []) (drop 4 s) ≡ none → comment (drop 4 s) ≡ none
   unfolding comment
-  endless e = rw (v.is, eq-eqb _ _ e)
+  endless e = rw e
 
-  module _ {r : Bool} (h : t ≡ 0 → ⊥) (w : r ≡ begins (62 ∷ []) (drop t s)) where
+  module _ (t : ℕ) {r : Bool} (v : beyond (45 ∷ 45 ∷ []) (drop 4 s) ≡ some (drop t s)) (w : r ≡ begins (62 ∷ []) (drop t s)) where
     dashes : comment (drop 4 s) ≡ (cond r (some (drop (t + 1) s)) none >>= λ u. some (remark, u))
     unfolding comment
-    dashes = rw (v.is, ne_eqb _ _ h, stripped s (62 ∷ []) t w)
+    dashes = rw (v, stripped s (62 ∷ []) t w)
 
     pub dashes_inside : r ≡ false → comment (drop 4 s) ≡ none
     dashes_inside f = dashes ∙ rw f
@@ -105,15 +105,15 @@ module _ (s : List ℕ) {n : ℕ} (v : Name s 2 n) where
     unfolding instruction
     is_xml_law f = rw (v.is, ne_eqb _ _ h, ← e, f) (bind_none (beyond (ascii "?>") (drop n s)))
 
-    module _ {t : ℕ} (f : x ≡ false) (b : Beyond (63 ∷ 62 ∷ []) s n t) where
-      pub unended : t ≡ 0 → instruction (drop 2 s) ≡ none
+    module _ (f : x ≡ false) where
+      pub unended : beyond (63 ∷ 62 ∷ []) (drop n s) ≡ none → instruction (drop 2 s) ≡ none
       unfolding instruction
-      unended k = rw (v.is, ne_eqb _ _ h, b.is, eq-eqb _ _ k)
+      unended k = rw (v.is, ne_eqb _ _ h, k)
 
-      module _ {y : Bool} (k : t ≡ 0 → ⊥) (g : y ≡ begins (63 ∷ 62 ∷ []) (drop n s)) where
+      module _ (t : ℕ) {y : Bool} (b : beyond (63 ∷ 62 ∷ []) (drop n s) ≡ some (drop t s)) (g : y ≡ begins (63 ∷ 62 ∷ []) (drop n s)) where
         behind_target : instruction (drop 2 s) ≡ cond (y || blank (get_or s n 0)) (some (remark, drop t s)) none
         unfolding instruction
-        behind_target = rw (v.is, ne_eqb _ _ h, ← e, f, b.is, ne_eqb _ _ k, ← g, get_or-drop n s 0 0, add-zero n)
+        behind_target = rw (v.is, ne_eqb _ _ h, ← e, f, b, ← g, get_or-drop n s 0 0, add-zero n)
 
         pub at_once : y ≡ true → instruction (drop 2 s) ≡ some (remark, drop t s)
         at_once l = behind_target ∙ rw l
@@ -172,10 +172,10 @@ not_empty : (p : ℕ → Bool) (s : List ℕ) {n : ℕ} → 0 < length s → p (
 unfolding span_end while
 not_empty p s {n} h e v = let z : length (while p (drop 0 s)) ≡ suc (length (while p (drop 1 s))) = ap (λ t. length (while p t)) (drop_next s 0 h) ∙ rw e in omega (arith, v.is)
 
-module _ (s : List ℕ) {n t m : ℕ} (h : 0 < length s) (c : is_text (get_or s 0 0) ≡ true) (v : Span (of_class Texts) s 0 n) (b : Beyond (93 ∷ 93 ∷ 62 ∷ []) (part s 0 n) 0 t) (w : Span (of_class Blank) (part s 0 n) 0 m) where
-  pub is_run : t ≡ 0 → Cuts s 0 (or_malformed (run s)) (record { kind = Text; name = 0; behind = 0; end = n; solid = m; code = 0; short = false; refers = false })
+module _ (s : List ℕ) {n m : ℕ} (h : 0 < length s) (c : is_text (get_or s 0 0) ≡ true) (v : Span (of_class Texts) s 0 n) (w : Span (of_class Blank) (part s 0 n) 0 m) where
+  pub is_run : beyond (93 ∷ 93 ∷ 62 ∷ []) (drop 0 (part s 0 n)) ≡ none → Cuts s 0 (or_malformed (run s)) (record { kind = Text; name = 0; behind = 0; end = n; solid = m; code = 0; short = false; refers = false })
   unfolding run is_some or_malformed piece_of before name_of text_of code_of short_of refers_of of_class span_end
-  is_run e = rw (span_here v, span_rest v, b.is, eq-eqb _ _ e) (record {
+  is_run e = rw (span_here v, span_rest v, e) (record {
     is = refl;
     name = refl;
     behind = refl;
@@ -191,8 +191,8 @@ module _ (s : List ℕ) {n t m : ℕ} (h : 0 < length s) (c : is_text (get_or s 
     high = v.high;
   })
 
-  pub bad_run : (t ≡ 0 → ⊥) → run s ≡ none
-  unfolding run is_some of_class
-  bad_run e = rw (span_here v, b.is, ne_eqb _ _ e)
+pub bad_run : (s : List ℕ) {n : ℕ} → Span (of_class Texts) s 0 n → (t : ℕ) → beyond (93 ∷ 93 ∷ 62 ∷ []) (drop 0 (part s 0 n)) ≡ some (drop t (part s 0 n)) → run s ≡ none
+unfolding run is_some of_class
+bad_run s v t e = rw (span_here v, e)
 
 pub ruleset runs = (nothing, is_run, bad_run, rules)

@@ -12,19 +12,17 @@ use pieces_cuts::names::name_end;
 use pieces_cuts::{Cut, Kind};
 use scan::{Class, begins_at, byte_at, is_blank, span};
 
-// The place behind the first such word from this place on, or 0 where there is none.
-fn find(s: &[u8], at: usize, word: &[u8]) -> usize
+// The place behind the first such word from this place on.
+fn find(s: &[u8], at: usize, word: &[u8]) -> Option<usize>
     requires { (at ≤ length s.now) × (0 < length word.now) }
     ensures { Beyond word.now s.now at result }
 {
-    let mut i = at;
-    while word.len() <= s.len() - i {
+    for i in at..s.len() {
         if begins_at(s, i, word) {
-            return i + word.len();
+            return Some(i + word.len());
         }
-        i += 1;
     }
-    0
+    None
 }
 
 // A comment: s begins with its `<!--`.
@@ -32,10 +30,9 @@ pub fn comment(s: &[u8]) -> Cut
     requires { 4 ≤ length s.now }
     ensures { Cuts s.now 0 (or_malformed (comment_of (drop 4 s.now))) result }
 {
-    let dashes = find(s, 4, b"--");
-    if dashes == 0 {
+    let Some(dashes) = find(s, 4, b"--") else {
         return malformed(s);
-    }
+    };
     if begins_at(s, dashes, b">") {
         return passed(s, dashes + 1);
     }
@@ -52,13 +49,7 @@ fn is_xml(s: &[u8]) -> bool
     let a = lower(s[0]);
     let b = lower(s[1]);
     let c = lower(s[2]);
-    if a == b'x' {
-        if b == b'm' {
-            return c == b'l';
-        }
-        return false;
-    }
-    false
+    a == b'x' && b == b'm' && c == b'l'
 }
 
 // An instruction: s begins with its `<?`.
@@ -73,10 +64,9 @@ pub fn instruction(s: &[u8]) -> Cut
     if is_xml(&s[2..behind]) {
         return malformed(s);
     }
-    let end = find(s, behind, b"?>");
-    if end == 0 {
+    let Some(end) = find(s, behind, b"?>") else {
         return malformed(s);
-    }
+    };
     if begins_at(s, behind, b"?>") {
         return passed(s, end);
     }
@@ -93,19 +83,18 @@ pub fn text(s: &[u8]) -> Cut
     ensures { Cuts s.now 0 (or_malformed (run s.now)) result }
 {
     let end = span(s, 0, Class::Text);
-    let bad = find(&s[0..end], 0, b"]]>");
-    let solid = span(&s[0..end], 0, Class::Blank);
-    if bad == 0 {
-        return Cut {
-            kind: Kind::Text,
-            name: 0,
-            behind: 0,
-            end,
-            solid,
-            code: 0,
-            short: false,
-            refers: false,
-        };
+    if let Some(_) = find(&s[0..end], 0, b"]]>") {
+        return malformed(s);
     }
-    malformed(s)
+    let solid = span(&s[0..end], 0, Class::Blank);
+    Cut {
+        kind: Kind::Text,
+        name: 0,
+        behind: 0,
+        end,
+        solid,
+        code: 0,
+        short: false,
+        refers: false,
+    }
 }
