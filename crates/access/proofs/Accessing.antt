@@ -17,14 +17,10 @@ use Rattle.access_writing.specs.Told.{written_of}
 use Rattle.access_reading.specs.Told.{reading_of, ReadAt}
 use Rattle.access.specs.Told.{start_for}
 use Rattle.refusals.specs.declared.Refusal.{Refusal}
-use Rattle.refusals.specs.Refusals.{fault_of}
+use Rattle.refusals.specs.Refusals.{refusal, fault_of}
 use Rattle.access_kinds.specs.declared.Setting.{Setting}
-use Rattle.access_lookup.specs.declared.Lookup.{Lookup}
-use Rattle.access_lookup.specs.declared.Lookup.TheVariants.{Is, Nothing}
-use Rattle.access_writing.specs.declared.Written.{Written}
-use Rattle.access_writing.specs.declared.Written.TheVariants as written
+use Rattle.std.specs.Prelude.{Result, Ok, Err}
 use Rattle.access_reading.specs.declared.Reading.{Reading}
-use Rattle.access_reading.specs.declared.Reading.TheVariants as reading
 use Rattle.access_lookup.proofs.Seeking.{lent, known_end}
 use Rattle.access_reading.proofs.Fetching.{refused_anywhere}
 
@@ -63,14 +59,14 @@ module _ (b : List ℕ) (t : List ℤ) {a : Result ℕ Refusal} (e : checked_of 
     unfolding checked_of
     is_refused = not_known b t m (fault_of r) (sym e ∙ ap checked_of q)
 
-    pub check_unwritten : (w : Window) (v : Value) → written_of (written.Refused r.number r.place) ≡ written b t m w v
+    pub check_unwritten : (w : Window) (v : Value) → written_of (Err r) ≡ written b t m w v
     unfolding written_of
     check_unwritten w v = sym (unwritten b t m is_refused w v)
 
     pub check_unchanged : (space first : ℕ) (bytes : List ℕ) (v : Value) → bytes ≡ window_after b t m (window_of space first bytes) v
     check_unchanged space first bytes v = sym (unchanged b t m is_refused (window_of space first bytes) v)
 
-    pub check_unread : (space first : ℕ) (bytes : List ℕ) → reading_of bytes (reading.Refused r.number r.place) ≡ read b t m (window_of space first bytes)
+    pub check_unread : (space first : ℕ) (bytes : List ℕ) → reading_of bytes (Err r) ≡ read b t m (window_of space first bytes)
     unfolding reading_of
     check_unread space first bytes = sym (unread b t m is_refused (window_of space first bytes))
 
@@ -78,26 +74,26 @@ pub ruleset checking_first = (checked_exact, check_unwritten, check_unchanged, c
 
 -- ── the setting ──
 
-module _ (b : List ℕ) (t : List ℤ) (n : ℕ) (e : ℕ) {a : Lookup} (s : lookup_of (take e b) a ≡ setting_of b t n) where
+module _ (b : List ℕ) (t : List ℤ) (n : ℕ) (e : ℕ) {a : Result Setting Refusal} (s : lookup_of (take e b) a ≡ setting_of b t n) where
   -- there is none
-  module _ {m : ℕ} (q : a ≡ Nothing m) where
-    is_none : setting_of b t n ≡ refused (fault m 0)
+  module _ {r : Refusal} (q : a ≡ Err r) where
+    is_none : setting_of b t n ≡ refused (fault_of r)
     unfolding lookup_of
     is_none = sym s ∙ ap (lookup_of (take e b)) q
 
-    pub none_written : (w : Window) (v : Value) → written_of (written.Refused m 0) ≡ written b t n w v
+    pub none_written : (w : Window) (v : Value) → written_of (Err r) ≡ written b t n w v
     unfolding written_of
     none_written w v = sym (unwritten b t n is_none w v)
 
     pub none_changed : (space first : ℕ) (bytes : List ℕ) (v : Value) → bytes ≡ window_after b t n (window_of space first bytes) v
     none_changed space first bytes v = sym (unchanged b t n is_none (window_of space first bytes) v)
 
-    pub none_read : (space first : ℕ) (bytes : List ℕ) → reading_of bytes (reading.Refused m 0) ≡ read b t n (window_of space first bytes)
+    pub none_read : (space first : ℕ) (bytes : List ℕ) → reading_of bytes (Err r) ≡ read b t n (window_of space first bytes)
     unfolding reading_of
     none_read space first bytes = sym (unread b t n is_none (window_of space first bytes))
 
   -- there is one
-  module _ {x : Setting} (q : a ≡ Is x) where
+  module _ {x : Setting} (q : a ≡ Ok x) where
     is_setting : setting_of b t n ≡ accepted (setting_is (take e b) x)
     unfolding lookup_of
     is_setting = sym s ∙ ap (lookup_of (take e b)) q
@@ -106,7 +102,7 @@ module _ (b : List ℕ) (t : List ℤ) (n : ℕ) (e : ℕ) {a : Lookup} (s : loo
     unfolding Fits
     setting_good f = rw (lent b e) (rw q at f)
 
-    pub setting_written : (r : Written) (w : Window) (v : Value) → written_of r ≡ first_cause (write_causes w v (setting_is (take (e - 0) (drop 0 b)) x)) → written_of r ≡ written b t n w v
+    pub setting_written : (r : Result (Unit {0}) Refusal) (w : Window) (v : Value) → written_of r ≡ first_cause (write_causes w v (setting_is (take (e - 0) (drop 0 b)) x)) → written_of r ≡ written b t n w v
     unfolding written
     setting_written r w v z = (rw (lent b e) at z) ∙ sym (rw is_setting)
 
@@ -114,11 +110,11 @@ module _ (b : List ℕ) (t : List ℤ) (n : ℕ) (e : ℕ) {a : Lookup} (s : loo
     unfolding window_after
     setting_changed w v z = (rw (lent b e) at z) ∙ sym (rw (is_setting, window_after))
 
-    pub setting_read : (r : Reading) (bytes : List ℕ) (w : Window) → reading_of bytes r ≡ read_from w (setting_is (take (e - 0) (drop 0 b)) x) → reading_of bytes r ≡ read b t n w
+    pub setting_read : (r : Result Reading Refusal) (bytes : List ℕ) (w : Window) → reading_of bytes r ≡ read_from w (setting_is (take (e - 0) (drop 0 b)) x) → reading_of bytes r ≡ read b t n w
     unfolding read
     setting_read r bytes w z = (rw (lent b e) at z) ∙ sym (rw is_setting)
 
-    pub setting_start : (r : Reading) (bytes : List ℕ) (first : ℕ) → ReadAt (x.address - first) bytes r → ReadAt (start_for b t n first) bytes r
+    pub setting_start : (r : Result Reading Refusal) (bytes : List ℕ) (first : ℕ) → ReadAt (x.address - first) bytes r → ReadAt (start_for b t n first) bytes r
     unfolding start_for setting_is
     setting_start r bytes first z = rw (is_setting, start_for) z
 

@@ -22,12 +22,10 @@ use Rattle.access_order.specs.Told.{cause_of}
 use Rattle.access_writing.specs.Told.{written_of}
 use Rattle.access_reading.specs.Told.{reading_of, ReadAt}
 use Rattle.access.specs.Told.{start_for}
-use Rattle.std.specs.Prelude.{Result, Ok, Err}
+use Rattle.access_kinds.specs.declared.Setting.{Setting}
 use Rattle.refusals.specs.declared.Refusal.{Refusal}
 use Rattle.refusals.specs.Refusals.{refusal}
-use Rattle.access_lookup.specs.declared.Lookup.{Lookup}
-use Rattle.access_writing.specs.declared.Written.{Written}
-use Rattle.access_writing.specs.declared.Written.TheVariants as written
+use Rattle.std.specs.Prelude.{Option, Some, None, Result, Ok, Err}
 use Rattle.access_reading.specs.declared.Reading.{Reading}
 use Rattle.access_reading.specs.declared.Reading.TheVariants as reading
 
@@ -50,46 +48,40 @@ module _ (b : List ℕ) (t : List ℤ) where
   check_once r q e f = checked_alike r q (once e f)
 
   -- of access_lookup::seek
-  pub seek_once : (n : ℕ) (c : List ℕ) (r q : Lookup) → lookup_of c r ≡ setting_of b t n → lookup_of c q ≡ setting_of b t n → lookup_of c r ≡ lookup_of c q
+  pub seek_once : (n : ℕ) (c : List ℕ) (r q : Result Setting Refusal) → lookup_of c r ≡ setting_of b t n → lookup_of c q ≡ setting_of b t n → lookup_of c r ≡ lookup_of c q
   seek_once n c r q e f = once e f
 
 -- ── the causes ──
 
-cause_alike : (r q : ℕ) → cause_of r ≡ cause_of q → r ≡ q
+cause_alike : (r q : Option ℕ) → cause_of r ≡ cause_of q → r ≡ q
 unfolding cause_of
-cause_alike r q e = by (eqb r 0) refl (eqb q 0) refl e
-  where
-    either : Bool → ℕ → Answer (Unit {0})
-    either b n = cond b (accepted tt) (refused (fault n 0))
-
-    by : (a : Bool) → eqb r 0 ≡ a → (b : Bool) → eqb q 0 ≡ b → either a r ≡ either b q → r ≡ q
-    by true x true y z = eqb-true r 0 x ∙ sym (eqb-true q 0 y)
-    by true x false y z = impossible (cc)
-    by false x true y z = impossible (cc)
-    by false x false y z = ap (λ (f : Fault). f.number) (same_refused z)
+cause_alike None None e = refl
+cause_alike None (Some n) e = impossible (cc)
+cause_alike (Some n) None e = impossible (cc)
+cause_alike (Some n) (Some m) e = ap (λ (f : Fault). Some f.number) (same_refused e)
 
 -- there is a window in which the variable lies, or doesn't, as is said
 -- of access_causes::write_cause
-pub write_cause_once : (s : A.Setting) (i : Bool) (v : Value) (w : Window) → i ≡ is_inside w s.variable → (r q : ℕ) → Decides s i v r → Decides s i v q → r ≡ q
+pub write_cause_once : (s : A.Setting) (i : Bool) (v : Value) (w : Window) → i ≡ is_inside w s.variable → (r q : Option ℕ) → Decides s i v r → Decides s i v q → r ≡ q
 write_cause_once s i v w e r q x y = cause_alike r q (once (x.of w e) (y.of w e))
 
 -- ── writing ──
 
-written_alike : (r q : Written) → written_of r ≡ written_of q → r ≡ q
+written_alike : (r q : Result (Unit {0}) Refusal) → written_of r ≡ written_of q → r ≡ q
 unfolding written_of
-written_alike written.Accepted written.Accepted z = refl
-written_alike written.Accepted (written.Refused n p) z = impossible (cc)
-written_alike (written.Refused n p) written.Accepted z = impossible (cc)
-written_alike (written.Refused n p) (written.Refused m o) z = ap (λ (f : Fault). written.Refused f.number f.place) (same_refused z)
+written_alike (Ok u) (Ok o) z = refl
+written_alike (Ok u) (Err f) z = impossible (cc)
+written_alike (Err f) (Ok u) z = impossible (cc)
+written_alike (Err f) (Err g) z = ap (λ (x : Fault). Err (refusal x.number x.place)) (same_refused z)
 
 -- of a setting that is known
 -- of access_writing::store
-pub store_once : (a : Answer (Unit {0})) (r q : Written) → written_of r ≡ a → written_of q ≡ a → r ≡ q
+pub store_once : (a : Answer (Unit {0})) (r q : Result (Unit {0}) Refusal) → written_of r ≡ a → written_of q ≡ a → r ≡ q
 store_once a r q e f = written_alike r q (once e f)
 
 module _ (b : List ℕ) (t : List ℤ) (n : ℕ) (w : Window) (v : Value) where
   -- of access::write_integer, access::write_event, access::write_text, access::write_known
-  pub write_once : (r q : Written) → written_of r ≡ written b t n w v → written_of q ≡ written b t n w v → r ≡ q
+  pub write_once : (r q : Result (Unit {0}) Refusal) → written_of r ≡ written b t n w v → written_of q ≡ written b t n w v → r ≡ q
   write_once r q e f = written_alike r q (once e f)
 
   -- of access::write_integer, access::write_event, access::write_text, access::write_known
@@ -128,48 +120,48 @@ module _ (at : ℕ) (bytes : List ℕ) where
   same_string : {x y : List ℕ} → string x ≡ string y → x ≡ y
   same_string e = cc
 
-  reading_alike : (r q : Reading) → ReadAt at bytes r → ReadAt at bytes q → reading_of bytes r ≡ reading_of bytes q → r ≡ q
+  reading_alike : (r q : Result Reading Refusal) → ReadAt at bytes r → ReadAt at bytes q → reading_of bytes r ≡ reading_of bytes q → r ≡ q
   unfolding reading_of ReadAt
-  reading_alike (reading.Integer b m f) (reading.Integer d n g) x y z =
+  reading_alike (Ok (reading.Integer b m f)) (Ok (reading.Integer d n g)) x y z =
       let s = same_accepted z in
       let k = signs b d m n x y (same_integer (value_of s)) in
       let i = k.0 in
       let j = k.1 in
       let o = flag_of s in
       cc
-  reading_alike (reading.Integer b m f) (reading.Event v g) x y z = let v = value_of (same_accepted z) in impossible (cc)
-  reading_alike (reading.Integer b m f) (reading.Text i j g) x y z = let v = value_of (same_accepted z) in impossible (cc)
-  reading_alike (reading.Integer b m f) (reading.Refused n p) x y z = impossible (cc)
-  reading_alike (reading.Event v f) (reading.Integer d n g) x y z = let v = value_of (same_accepted z) in impossible (cc)
-  reading_alike (reading.Event v f) (reading.Event o g) x y z =
+  reading_alike (Ok (reading.Integer b m f)) (Ok (reading.Event v g)) x y z = let v = value_of (same_accepted z) in impossible (cc)
+  reading_alike (Ok (reading.Integer b m f)) (Ok (reading.Text i j g)) x y z = let v = value_of (same_accepted z) in impossible (cc)
+  reading_alike (Ok (reading.Integer b m f)) (Err e) x y z = impossible (cc)
+  reading_alike (Ok (reading.Event v f)) (Ok (reading.Integer d n g)) x y z = let v = value_of (same_accepted z) in impossible (cc)
+  reading_alike (Ok (reading.Event v f)) (Ok (reading.Event o g)) x y z =
       let s = same_accepted z in
       let i = same_event (value_of s) in
       let k = flag_of s in
       cc
-  reading_alike (reading.Event v f) (reading.Text i j g) x y z = let v = value_of (same_accepted z) in impossible (cc)
-  reading_alike (reading.Event v f) (reading.Refused n p) x y z = impossible (cc)
-  reading_alike (reading.Text i j f) (reading.Integer d n g) x y z = let v = value_of (same_accepted z) in impossible (cc)
-  reading_alike (reading.Text i j f) (reading.Event v g) x y z = let v = value_of (same_accepted z) in impossible (cc)
-  reading_alike (reading.Text i j f) (reading.Text k l g) x y z =
+  reading_alike (Ok (reading.Event v f)) (Ok (reading.Text i j g)) x y z = let v = value_of (same_accepted z) in impossible (cc)
+  reading_alike (Ok (reading.Event v f)) (Err e) x y z = impossible (cc)
+  reading_alike (Ok (reading.Text i j f)) (Ok (reading.Integer d n g)) x y z = let v = value_of (same_accepted z) in impossible (cc)
+  reading_alike (Ok (reading.Text i j f)) (Ok (reading.Event v g)) x y z = let v = value_of (same_accepted z) in impossible (cc)
+  reading_alike (Ok (reading.Text i j f)) (Ok (reading.Text k l g)) x y z =
       let s = same_accepted z in
       let h = texts i j k l x.0 y.0 x.1 y.1 x.2 y.2 (same_string (value_of s)) in
       let m = h.0 in
       let o = h.1 in
       let p = flag_of s in
       cc
-  reading_alike (reading.Text i j f) (reading.Refused n p) x y z = impossible (cc)
-  reading_alike (reading.Refused n p) (reading.Integer d m g) x y z = impossible (cc)
-  reading_alike (reading.Refused n p) (reading.Event v g) x y z = impossible (cc)
-  reading_alike (reading.Refused n p) (reading.Text i j g) x y z = impossible (cc)
-  reading_alike (reading.Refused n p) (reading.Refused m o) x y z = ap (λ (f : Fault). reading.Refused f.number f.place) (same_refused z)
+  reading_alike (Ok (reading.Text i j f)) (Err e) x y z = impossible (cc)
+  reading_alike (Err e) (Ok (reading.Integer d m g)) x y z = impossible (cc)
+  reading_alike (Err e) (Ok (reading.Event v g)) x y z = impossible (cc)
+  reading_alike (Err e) (Ok (reading.Text i j g)) x y z = impossible (cc)
+  reading_alike (Err f) (Err g) x y z = ap (λ (e : Fault). Err (refusal e.number e.place)) (same_refused z)
 
 -- of a setting that is known
 -- of access_reading::fetch
-pub fetch_once : (at : ℕ) (bytes : List ℕ) (a : Answer A.Reading) (r q : Reading) → reading_of bytes r ≡ a → reading_of bytes q ≡ a → ReadAt at bytes r → ReadAt at bytes q → r ≡ q
+pub fetch_once : (at : ℕ) (bytes : List ℕ) (a : Answer A.Reading) (r q : Result Reading Refusal) → reading_of bytes r ≡ a → reading_of bytes q ≡ a → ReadAt at bytes r → ReadAt at bytes q → r ≡ q
 fetch_once at bytes a r q e f x y = reading_alike at bytes r q x y (once e f)
 
 module _ (b : List ℕ) (t : List ℤ) (n space first : ℕ) (bytes : List ℕ) where
   -- of access::read, access::read_known
-  pub read_once : (r q : Reading) → reading_of bytes r ≡ read b t n (window_of space first bytes) → reading_of bytes q ≡ read b t n (window_of space first bytes)
+  pub read_once : (r q : Result Reading Refusal) → reading_of bytes r ≡ read b t n (window_of space first bytes) → reading_of bytes q ≡ read b t n (window_of space first bytes)
       → ReadAt (start_for b t n first) bytes r → ReadAt (start_for b t n first) bytes q → r ≡ q
   read_once r q e f x y = reading_alike (start_for b t n first) bytes r q x y (once e f)

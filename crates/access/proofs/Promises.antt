@@ -16,21 +16,22 @@ use Rattle.cdi.proofs.Promises.{written_reads_back}
 use Rattle.access_kinds.specs.Told.{window_of}
 use Rattle.access_writing.specs.Told.{written_of}
 use Rattle.access_reading.specs.Told.{reading_of}
-use Rattle.access_writing.specs.declared.Written.{Written}
-use Rattle.access_writing.specs.declared.Written.TheVariants.{Accepted, Refused}
 use Rattle.access_reading.specs.declared.Reading.{Reading}
+use Rattle.refusals.specs.declared.Refusal.{Refusal}
+use Rattle.refusals.specs.Refusals.{refusal}
+use Rattle.std.specs.Prelude.{Result, Ok, Err}
 
 module _ (b : List ℕ) (t : List ℤ) (n space first : ℕ) (bytes : List ℕ) (v : Value) where
   abbrev w : Window
   w = window_of space first bytes
 
-  module _ {r : Written} {u : List ℕ} (answer : written_of r ≡ written b t n w v) (after : u ≡ window_after b t n w v) where
+  module _ {r : Result (Unit {0}) Refusal} {u : List ℕ} (answer : written_of r ≡ written b t n w v) (after : u ≡ window_after b t n w v) where
     -- a refusal leaves the window as it was
-    pub refusal_writes_nothing : {m p : ℕ} → r ≡ Refused m p → u ≡ bytes
+    pub refusal_writes_nothing : {m p : ℕ} → r ≡ Err (refusal m p) → u ≡ bytes
     unfolding written_of
     refusal_writes_nothing {m} {p} e = after ∙ refused_unchanged b t n w v (fault m p) (sym answer ∙ ap written_of e)
 
-    module _ (e : r ≡ Accepted) where
+    module _ (e : r ≡ Ok tt) where
       is_written : written b t n w v ≡ accepted tt
       unfolding written_of
       is_written = sym answer ∙ ap written_of e
@@ -56,6 +57,6 @@ module _ (b : List ℕ) (t : List ℤ) (n space first : ℕ) (bytes : List ℕ) 
         behind_kept i d l = rw after (back.behind_unchanged b t n w v s found is_written i d l)
 
       -- reading before any other write gives the value, and says that writing it would be accepted
-      pub reads_back : SixtyFour v → (q : Reading) → reading_of u q ≡ read b t n (window_of space first u) → reading_of u q ≡ accepted (record { value = v; writable = true })
+      pub reads_back : SixtyFour v → (q : Result Reading Refusal) → reading_of u q ≡ read b t n (window_of space first u) → reading_of u q ≡ accepted (record { value = v; writable = true })
       unfolding holding
       reads_back x q z = z ∙ rw after (written_reads_back b t n w v x is_written)

@@ -14,10 +14,11 @@ ghost use Rattle.access_reading.specs.Told.{reading_of, ReadAt};
 ghost use Rattle.access.specs.Told.{start_for};
 
 use access_checked::check;
-use access_lookup::{Lookup, seek};
+use access_lookup::seek;
 use access_reading::{Reading, fetch};
-use access_writing::{Written, store};
+use access_writing::store;
 use maps::Wanted;
+use refusals::Refusal;
 
 // ── of a text and a table that have been checked ──
 
@@ -32,15 +33,14 @@ pub fn write_known(
     window: &mut [u8],
     value: Wanted,
     string: &[u8],
-) -> Written
+) -> Result<(), Refusal>
     requires { known_of text.now table.now ≡ accepted end }
     ensures answer { written_of result ≡ written text.now table.now n (window_of space first window.old) (wanted_of value string.now) }
     ensures after { window.new ≡ window_after text.now table.now n (window_of space first window.old) (wanted_of value string.now) }
 {
-    let lookup = seek(text, end, table, n);
-    match lookup {
-        Lookup::Nothing(number) => Written::Refused { number, place: 0 },
-        Lookup::Is(setting) => store(&text[0..end], setting, space, first, window, value, string),
+    match seek(text, end, table, n) {
+        Err(refusal) => Err(refusal),
+        Ok(setting) => store(&text[0..end], setting, space, first, window, value, string),
     }
 }
 
@@ -53,15 +53,14 @@ pub fn read_known(
     space: u64,
     first: u64,
     window: &[u8],
-) -> Reading
+) -> Result<Reading, Refusal>
     requires { known_of text.now table.now ≡ accepted end }
     ensures is { reading_of window.now result ≡ read text.now table.now n (window_of space first window.now) }
     ensures at { ReadAt (start_for text.now table.now n first) window.now result }
 {
-    let lookup = seek(text, end, table, n);
-    match lookup {
-        Lookup::Nothing(number) => Reading::Refused { number, place: 0 },
-        Lookup::Is(setting) => fetch(&text[0..end], setting, space, first, window),
+    match seek(text, end, table, n) {
+        Err(refusal) => Err(refusal),
+        Ok(setting) => fetch(&text[0..end], setting, space, first, window),
     }
 }
 
@@ -77,18 +76,14 @@ fn write(
     window: &mut [u8],
     value: Wanted,
     string: &[u8],
-) -> Written
+) -> Result<(), Refusal>
     ensures answer { written_of result ≡ written text.now table.now n (window_of space first window.old) (wanted_of value string.now) }
     ensures after { window.new ≡ window_after text.now table.now n (window_of space first window.old) (wanted_of value string.now) }
 {
-    let checked = check(text, table);
-    match checked {
-        Err(refusal) => Written::Refused {
-            number: refusal.number,
-            place: refusal.place,
-        },
-        Ok(end) => write_known(text, end, table, n, space, first, window, value, string),
-    }
+    let end = check(text, table)?;
+    write_known(
+        text, end, table, n, space, first, window, value, string,
+    )
 }
 
 // Writes an integer, a sign and a magnitude, into variable `n`. The window has these bytes of a space, from `first` on.
@@ -101,7 +96,7 @@ pub fn write_integer(
     window: &mut [u8],
     negative: bool,
     magnitude: u64,
-) -> Written
+) -> Result<(), Refusal>
     ensures answer { written_of result ≡ written text.now table.now n (window_of space first window.old) (wanted_of (Number negative magnitude) no_text) }
     ensures after { window.new ≡ window_after text.now table.now n (window_of space first window.old) (wanted_of (Number negative magnitude) no_text) }
 {
@@ -121,7 +116,7 @@ pub fn write_event(
     first: u64,
     window: &mut [u8],
     id: u64,
-) -> Written
+) -> Result<(), Refusal>
     ensures answer { written_of result ≡ written text.now table.now n (window_of space first window.old) (wanted_of (Event id) no_text) }
     ensures after { window.new ≡ window_after text.now table.now n (window_of space first window.old) (wanted_of (Event id) no_text) }
 {
@@ -137,7 +132,7 @@ pub fn write_text(
     first: u64,
     window: &mut [u8],
     string: &[u8],
-) -> Written
+) -> Result<(), Refusal>
     ensures answer { written_of result ≡ written text.now table.now n (window_of space first window.old) (wanted_of Text string.now) }
     ensures after { window.new ≡ window_after text.now table.now n (window_of space first window.old) (wanted_of Text string.now) }
 {
@@ -145,16 +140,10 @@ pub fn write_text(
 }
 
 // Reads variable `n`: its value, and whether writing that value now would be accepted.
-pub fn read(text: &[u8], table: &[i64], n: u64, space: u64, first: u64, window: &[u8]) -> Reading
+pub fn read(text: &[u8], table: &[i64], n: u64, space: u64, first: u64, window: &[u8]) -> Result<Reading, Refusal>
     ensures is { reading_of window.now result ≡ read text.now table.now n (window_of space first window.now) }
     ensures at { ReadAt (start_for text.now table.now n first) window.now result }
 {
-    let checked = check(text, table);
-    match checked {
-        Err(refusal) => Reading::Refused {
-            number: refusal.number,
-            place: refusal.place,
-        },
-        Ok(end) => read_known(text, end, table, n, space, first, window),
-    }
+    let end = check(text, table)?;
+    read_known(text, end, table, n, space, first, window)
 }

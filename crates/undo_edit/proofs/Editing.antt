@@ -30,10 +30,11 @@ use Rattle.undo_entries.specs.Begun.{begun_of, stands_in, entry_for}
 use Rattle.undo_entries.specs.declared.Begun.{Begun}
 use Rattle.undo_entries.specs.declared.Begun.TheVariants.{At, Nothing}
 use Rattle.undo_edit.specs.Told.{outcome_of, state_of, window_left, journal_left, edited_in}
-use Rattle.undo_edit.specs.declared.Outcome.TheVariants.{Stands, Refused}
+use Rattle.refusals.specs.Refusals.{refusal}
+use Rattle.std.specs.Prelude.{Option, Some, None, Ok, Err}
 
 module _ (c : List ℕ) {s : Setting} (g : Good c s) (n session space first : ℕ) (bytes j : List ℕ) (v : Wanted) (t : List ℕ)
-    {i : Bool} (ei : i ≡ inside_by s space first (length bytes)) {r : ℕ} (x : Decides (setting_is c s) i (wanted_of v t) r) where
+    {i : Bool} (ei : i ≡ inside_by s space first (length bytes)) {r : Option ℕ} (x : Decides (setting_is c s) i (wanted_of v t) r) where
   abbrev st : State
   st = state_of session space first bytes j
 
@@ -41,12 +42,12 @@ module _ (c : List ℕ) {s : Setting} (g : Good c s) (n session space first : �
   a = edited_in (setting_is c s) n (wanted_of v t) st
 
   -- a cause speaks against it
-  module _ (h : 0 < r) where
-    cause_answer : a ≡ refused (fault r 0)
+  module _ {m : ℕ} (h : r ≡ Some m) where
+    cause_answer : a ≡ refused (fault m 0)
     unfolding edited_in
-    cause_answer = rw (refused_is c g space first bytes v t ei x (λ e. omega arith))
+    cause_answer = rw (refused_is c g space first bytes v t ei x h)
 
-    pub cause_told : outcome_of (Refused r 0) ≡ answered a
+    pub cause_told : outcome_of (Err (refusal m 0)) ≡ answered a
     unfolding outcome_of answered
     cause_told = sym (rw cause_answer)
 
@@ -59,10 +60,7 @@ module _ (c : List ℕ) {s : Setting} (g : Good c s) (n session space first : �
     cause_journal = sym (rw cause_answer)
 
   -- nothing does
-  module _ (h : r ≤ 0) where
-    none : r ≡ 0
-    none = omega arith
-
+  module _ (none : r ≡ None) where
     passes : first_cause (write_causes (window_of space first bytes) (wanted_of v t) (setting_is c s)) ≡ accepted tt
     passes = accepted_is c g space first bytes v t ei x none
 
@@ -90,7 +88,7 @@ module _ (c : List ℕ) {s : Setting} (g : Good c s) (n session space first : �
         unfolding edited_in
         full_answer = rw (passes, cannot)
 
-        pub full_told : outcome_of (Refused 30 0) ≡ answered a
+        pub full_told : outcome_of (Err (refusal 30 0)) ≡ answered a
         unfolding outcome_of answered
         full_told = sym (rw full_answer)
 
@@ -145,7 +143,7 @@ module _ (c : List ℕ) {s : Setting} (g : Good c s) (n session space first : �
         unfolding edited_in holding
         stands_answer = rw (passes, can, found.1)
 
-        pub stands_told : outcome_of (Stands (session + 1)) ≡ answered a
+        pub stands_told : outcome_of (Ok (session + 1)) ≡ answered a
         unfolding outcome_of answered
         stands_told = sym (rw stands_answer)
 

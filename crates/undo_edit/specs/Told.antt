@@ -1,17 +1,17 @@
 -- What edits and undos answer and leave.
-use Rattle.std.specs.Prelude.{List, cond, ℕ, ◌+◌}
+use Rattle.std.specs.Prelude.{List, cond, ℕ, ◌+◌, Result, Ok, Err}
 use Rattle.cdi.specs.Faults.{fault, Answer, accepted, refused, ◌and_then◌}
 use Rattle.cdi.specs.Access as A
 use Rattle.cdi.specs.Access.{Value, first_cause, write_causes, write_into, overwritten}
 use Rattle.access_kinds.specs.Told.{window_of}
 use Rattle.undo_model.specs.Journal.{entry_bytes, room, beginning}
 use Rattle.undo_model.specs.Sessions.{State, holding, entry_of, can_stand, after}
-use Rattle.undo_edit.specs.declared.Outcome.{Outcome}
-use Rattle.undo_edit.specs.declared.Outcome.TheVariants.{Stands, Refused}
+use Rattle.refusals.specs.declared.Refusal.{Refusal}
+use Rattle.refusals.specs.Refusals.{fault_of}
 
-unfoldable pub outcome_of : Outcome → Answer ℕ
-outcome_of (Stands s) = accepted s
-outcome_of (Refused n p) = refused (fault n p)
+unfoldable pub outcome_of : Result ℕ Refusal → Answer ℕ
+outcome_of (Ok s) = accepted s
+outcome_of (Err r) = refused (fault_of r)
 
 -- a session value, the window and the journal, as a call is handed them
 abbrev pub state_of : ℕ → ℕ → ℕ → List ℕ → List ℕ → State

@@ -11,16 +11,10 @@ use access_causes::write_cause;
 use access_kinds::{Setting, is_inside};
 use access_writing::put;
 use maps::Wanted;
+use refusals::Refusal;
 use undo_entries::{Begun, HEAD, keep, place_for};
 
-// How many edits stand, or the refusal.
-#[derive(Clone, Copy)]
-pub enum Outcome {
-    Stands(u64),
-    Refused { number: usize, place: usize },
-}
-
-// Edits variable `n`, whose setting is known.
+// Edits variable `n`, whose setting is known: how many edits stand, or the refusal.
 pub fn edit_setting(
     content: &[u8],
     setting: Setting,
@@ -32,35 +26,28 @@ pub fn edit_setting(
     session: u64,
     value: Wanted,
     string: &[u8],
-) -> Outcome
+) -> Result<u64, Refusal>
     requires { Good content.now setting }
     ensures answer { outcome_of result ≡ answered (edited_in (setting_is content.now setting) n (wanted_of value string.now) (state_of session space first window.old journal.old)) }
     ensures bytes { window.new ≡ window_left (state_of session space first window.old journal.old) (edited_in (setting_is content.now setting) n (wanted_of value string.now) (state_of session space first window.old journal.old)) }
     ensures kept { journal.new ≡ journal_left (state_of session space first window.old journal.old) (edited_in (setting_is content.now setting) n (wanted_of value string.now) (state_of session space first window.old journal.old)) }
 {
-    let length = window.len();
-    let inside = is_inside(setting, space, first, length);
-    let cause = write_cause(content, setting, inside, value, string);
-    if 0 < cause {
-        return Outcome::Refused {
-            number: cause,
-            place: 0,
-        };
-    }
-    let size = setting.size;
-    let begun = place_for(journal, session, size);
-    match begun {
-        Begun::Nothing => Outcome::Refused {
-            number: 30,
-            place: 0,
+    let inside = is_inside(setting, space, first, window.len());
+    match write_cause(content, setting, inside, value, string) {
+        Some(number) => Err(Refusal { number, place: 0 }),
+        None => match place_for(journal, session, setting.size) {
+            Begun::Nothing => Err(Refusal {
+                number: 30,
+                place: 0,
+            }),
+            Begun::At(at) => {
+                let from = (setting.address - first) as usize;
+                let to = from + setting.size;
+                let end = at + HEAD + setting.size;
+                keep(&mut journal[at..end], n, &window[from..to]);
+                put(&mut window[from..to], value, string);
+                Ok(session + 1)
+            }
         },
-        Begun::At(at) => {
-            let from = (setting.address - first) as usize;
-            let to = from + size;
-            let end = at + HEAD + size;
-            keep(&mut journal[at..end], n, &window[from..to]);
-            put(&mut window[from..to], value, string);
-            Outcome::Stands(session + 1)
-        }
     }
 }

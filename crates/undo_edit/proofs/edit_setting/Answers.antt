@@ -2,32 +2,32 @@ use native.Mathlib.Omega.{arith}
 use Rattle.undo_edit.proofs.Editing.{editing, cause_told, cause_window, cause_journal, edit_high, edit_room, full_told, full_window, full_journal, in_room_law, few, stands_told, stands_window, stands_journal}
 use Rattle.undo_edit.proofs.edit_setting.Goals as goal
 
-pub returns-then-cause-gt0-clause-answer : goal.returns-then-cause-gt0-clause-answer
-returns-then-cause-gt0-clause-answer c =
-    cause_told c.args.content.now c.requires c.args.n c.args.session c.args.space c.args.first c.args.window.now c.args.journal.now c.args.value c.args.string.now c.is_inside-inside.ensures c.write_cause-cause.ensures c.if-cause-gt0.true
+pub returns-in-Some-clause-answer : goal.returns-in-Some-clause-answer
+returns-in-Some-clause-answer c =
+    cause_told c.args.content.now c.requires c.args.n c.args.session c.args.space c.args.first c.args.window.now c.args.journal.now c.args.value c.args.string.now c.is_inside-inside.ensures c.write_cause.ensures c.in-Some.is
 
-pub returns-then-cause-gt0-clause-bytes : goal.returns-then-cause-gt0-clause-bytes
-returns-then-cause-gt0-clause-bytes c =
-    cause_window c.args.content.now c.requires c.args.n c.args.session c.args.space c.args.first c.args.window.now c.args.journal.now c.args.value c.args.string.now c.is_inside-inside.ensures c.write_cause-cause.ensures c.if-cause-gt0.true
+pub returns-in-Some-clause-bytes : goal.returns-in-Some-clause-bytes
+returns-in-Some-clause-bytes c =
+    cause_window c.args.content.now c.requires c.args.n c.args.session c.args.space c.args.first c.args.window.now c.args.journal.now c.args.value c.args.string.now c.is_inside-inside.ensures c.write_cause.ensures c.in-Some.is
 
-pub returns-then-cause-gt0-clause-kept : goal.returns-then-cause-gt0-clause-kept
-returns-then-cause-gt0-clause-kept c =
-    cause_journal c.args.content.now c.requires c.args.n c.args.session c.args.space c.args.first c.args.window.now c.args.journal.now c.args.value c.args.string.now c.is_inside-inside.ensures c.write_cause-cause.ensures c.if-cause-gt0.true
+pub returns-in-Some-clause-kept : goal.returns-in-Some-clause-kept
+returns-in-Some-clause-kept c =
+    cause_journal c.args.content.now c.requires c.args.n c.args.session c.args.space c.args.first c.args.window.now c.args.journal.now c.args.value c.args.string.now c.is_inside-inside.ensures c.write_cause.ensures c.in-Some.is
 
 pub overflow_sub-from : goal.overflow_sub-from
 overflow_sub-from c = search editing
 
 pub overflow_add-to : goal.overflow_add-to
 overflow_add-to c =
-    omega (arith, edit_high c.args.content.now c.requires c.args.n c.args.session c.args.space c.args.first c.args.window.now c.args.journal.now c.args.value c.args.string.now c.is_inside-inside.ensures c.write_cause-cause.ensures c.if-cause-gt0.false, c.well_formed.1.1.1.1.1.0)
+    omega (arith, edit_high c.args.content.now c.requires c.args.n c.args.session c.args.space c.args.first c.args.window.now c.args.journal.now c.args.value c.args.string.now c.is_inside-inside.ensures c.write_cause.ensures c.in-None.is, c.well_formed.1.1.1.1.1.0)
 
 pub overflow_add-end : goal.overflow_add-end
 overflow_add-end c =
-    omega (arith, in_room_law c.args.content.now c.requires c.args.n c.args.session c.args.space c.args.first c.args.window.now c.args.journal.now c.args.value c.args.string.now c.is_inside-inside.ensures c.write_cause-cause.ensures c.if-cause-gt0.false c.place_for-begun.ensures c.in-At.is)
+    omega (arith, in_room_law c.args.content.now c.requires c.args.n c.args.session c.args.space c.args.first c.args.window.now c.args.journal.now c.args.value c.args.string.now c.is_inside-inside.ensures c.write_cause.ensures c.in-None.is c.place_for.ensures c.in-At.is)
 
 pub overflow_add-end-in-At : goal.overflow_add-end-in-At
 overflow_add-end-in-At c =
-    omega (arith, in_room_law c.args.content.now c.requires c.args.n c.args.session c.args.space c.args.first c.args.window.now c.args.journal.now c.args.value c.args.string.now c.is_inside-inside.ensures c.write_cause-cause.ensures c.if-cause-gt0.false c.place_for-begun.ensures c.in-At.is)
+    omega (arith, in_room_law c.args.content.now c.requires c.args.n c.args.session c.args.space c.args.first c.args.window.now c.args.journal.now c.args.value c.args.string.now c.is_inside-inside.ensures c.write_cause.ensures c.in-None.is c.place_for.ensures c.in-At.is)
 
 pub slice_bounds-keep-end : goal.slice_bounds-keep-end
 slice_bounds-keep-end c = search editing
@@ -40,32 +40,32 @@ slice_bounds-put-end c = search editing
 
 pub put-requires : goal.put-requires
 put-requires c =
-    edit_room c.args.content.now c.requires c.args.n c.args.session c.args.space c.args.first c.args.window.now c.args.journal.now c.args.value c.args.string.now c.is_inside-inside.ensures c.write_cause-cause.ensures c.if-cause-gt0.false
+    edit_room c.args.content.now c.requires c.args.n c.args.session c.args.space c.args.first c.args.window.now c.args.journal.now c.args.value c.args.string.now c.is_inside-inside.ensures c.write_cause.ensures c.in-None.is
 
 pub overflow_add-result : goal.overflow_add-result
 overflow_add-result c =
-    omega (arith, few c.args.content.now c.requires c.args.n c.args.session c.args.space c.args.first c.args.window.now c.args.journal.now c.args.value c.args.string.now c.is_inside-inside.ensures c.write_cause-cause.ensures c.if-cause-gt0.false c.place_for-begun.ensures c.in-At.is)
+    omega (arith, few c.args.content.now c.requires c.args.n c.args.session c.args.space c.args.first c.args.window.now c.args.journal.now c.args.value c.args.string.now c.is_inside-inside.ensures c.write_cause.ensures c.in-None.is c.place_for.ensures c.in-At.is)
 
 pub returns-in-Nothing-clause-answer : goal.returns-in-Nothing-clause-answer
 returns-in-Nothing-clause-answer c =
-    full_told c.args.content.now c.requires c.args.n c.args.session c.args.space c.args.first c.args.window.now c.args.journal.now c.args.value c.args.string.now c.is_inside-inside.ensures c.write_cause-cause.ensures c.if-cause-gt0.false c.place_for-begun.ensures c.in-Nothing.is
+    full_told c.args.content.now c.requires c.args.n c.args.session c.args.space c.args.first c.args.window.now c.args.journal.now c.args.value c.args.string.now c.is_inside-inside.ensures c.write_cause.ensures c.in-None.is c.place_for.ensures c.in-Nothing.is
 
 pub returns-in-Nothing-clause-bytes : goal.returns-in-Nothing-clause-bytes
 returns-in-Nothing-clause-bytes c =
-    full_window c.args.content.now c.requires c.args.n c.args.session c.args.space c.args.first c.args.window.now c.args.journal.now c.args.value c.args.string.now c.is_inside-inside.ensures c.write_cause-cause.ensures c.if-cause-gt0.false c.place_for-begun.ensures c.in-Nothing.is
+    full_window c.args.content.now c.requires c.args.n c.args.session c.args.space c.args.first c.args.window.now c.args.journal.now c.args.value c.args.string.now c.is_inside-inside.ensures c.write_cause.ensures c.in-None.is c.place_for.ensures c.in-Nothing.is
 
 pub returns-in-Nothing-clause-kept : goal.returns-in-Nothing-clause-kept
 returns-in-Nothing-clause-kept c =
-    full_journal c.args.content.now c.requires c.args.n c.args.session c.args.space c.args.first c.args.window.now c.args.journal.now c.args.value c.args.string.now c.is_inside-inside.ensures c.write_cause-cause.ensures c.if-cause-gt0.false c.place_for-begun.ensures c.in-Nothing.is
+    full_journal c.args.content.now c.requires c.args.n c.args.session c.args.space c.args.first c.args.window.now c.args.journal.now c.args.value c.args.string.now c.is_inside-inside.ensures c.write_cause.ensures c.in-None.is c.place_for.ensures c.in-Nothing.is
 
 pub returns-in-At-clause-answer : goal.returns-in-At-clause-answer
 returns-in-At-clause-answer c =
-    stands_told c.args.content.now c.requires c.args.n c.args.session c.args.space c.args.first c.args.window.now c.args.journal.now c.args.value c.args.string.now c.is_inside-inside.ensures c.write_cause-cause.ensures c.if-cause-gt0.false c.place_for-begun.ensures c.in-At.is
+    stands_told c.args.content.now c.requires c.args.n c.args.session c.args.space c.args.first c.args.window.now c.args.journal.now c.args.value c.args.string.now c.is_inside-inside.ensures c.write_cause.ensures c.in-None.is c.place_for.ensures c.in-At.is
 
 pub returns-in-At-clause-bytes : goal.returns-in-At-clause-bytes
 returns-in-At-clause-bytes c =
-    stands_window c.args.content.now c.requires c.args.n c.args.session c.args.space c.args.first c.args.window.now c.args.journal.now c.args.value c.args.string.now c.is_inside-inside.ensures c.write_cause-cause.ensures c.if-cause-gt0.false c.place_for-begun.ensures c.in-At.is _ c.put.ensures
+    stands_window c.args.content.now c.requires c.args.n c.args.session c.args.space c.args.first c.args.window.now c.args.journal.now c.args.value c.args.string.now c.is_inside-inside.ensures c.write_cause.ensures c.in-None.is c.place_for.ensures c.in-At.is _ c.put.ensures
 
 pub returns-in-At-clause-kept : goal.returns-in-At-clause-kept
 returns-in-At-clause-kept c =
-    stands_journal c.args.content.now c.requires c.args.n c.args.session c.args.space c.args.first c.args.window.now c.args.journal.now c.args.value c.args.string.now c.is_inside-inside.ensures c.write_cause-cause.ensures c.if-cause-gt0.false c.place_for-begun.ensures c.in-At.is _ c.keep.ensures
+    stands_journal c.args.content.now c.requires c.args.n c.args.session c.args.space c.args.first c.args.window.now c.args.journal.now c.args.value c.args.string.now c.is_inside-inside.ensures c.write_cause.ensures c.in-None.is c.place_for.ensures c.in-At.is _ c.keep.ensures
