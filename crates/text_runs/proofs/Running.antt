@@ -47,24 +47,24 @@ carried {p} {s} P keeps {i} {r} v l h w = subst P again (carried_by p s P keeps 
 
 -- ── tested bytes ──
 
-module _ {p : ℕ → Bool} {s : List ℕ} {at k : ℕ} where
-  pub grown : AllOf p s at k → {t : Bool} → t ≡ p (get_or s k 0) → t ≡ true → AllOf p s at (k + 1)
-  grown v e f = behind v (one k (sym e ∙ f))
-
-  pub cut_to : {m : ℕ} → AllOf p s at k → m ≤ k → AllOf p s at m
-  cut_to v h = record { each = λ j a b. v.each j a (omega arith) }
-
 module _ {p : ℕ → Bool} {s : List ℕ} {at : ℕ} where
-  pub none_tested : true ≡ true → AllOf p s at (at + 0)
-  none_tested e = record { each = λ j h k. absurd (omega arith) }
+  -- k bytes behind i
+  pub none_more : {i : ℕ} → AllOf p s at i → AllOf p s at (i + 0)
+  none_more {i} v = subst (AllOf p s at) (sym (add-zero i)) v
+
+  pub one_more : (i k : ℕ) → AllOf p s at (i + k) → {t : Bool} → t ≡ p (get_or s (i + k) 0) → t ≡ true → AllOf p s at (i + (k + 1))
+  one_more i k v e f = let is : i + k + 1 ≡ i + (k + 1) = omega arith in subst (AllOf p s at) is (behind v (one (i + k) (sym e ∙ f)))
+
+  pub all_eight : (i k : ℕ) → AllOf p s at (i + k) → 8 ≤ k → AllOf p s at (i + 8)
+  all_eight i k v h = record { each = λ j a b. v.each j a (omega arith) }
 
   -- bytes of which all are good so far
-  pub grown_good : (k : ℕ) (good : Bool) {t : Bool} → (good ≡ true → AllOf p s at (at + k)) → t ≡ p (get_or s (at + k) 0) → (good && t) ≡ true → AllOf p s at (at + (k + 1))
-  grown_good k true v e f = let is : at + k + 1 ≡ at + (k + 1) = omega arith in subst (AllOf p s at) is (grown (v refl) e f)
-  grown_good k false v e f = impossible (cc)
+  pub none_tested : true ≡ true → AllOf p s at (at + 0)
+  none_tested e = none_more (nothing_yet at)
 
-  pub all_good : {k : ℕ} → AllOf p s at (at + k) → 8 ≤ k → AllOf p s at (at + 8)
-  all_good v h = cut_to v (omega arith)
+  pub one_tested : (k : ℕ) (good : Bool) {t : Bool} → (good ≡ true → AllOf p s at (at + k)) → t ≡ p (get_or s (at + k) 0) → (good && t) ≡ true → AllOf p s at (at + (k + 1))
+  one_tested k true v e f = one_more at k (v refl) e f
+  one_tested k false v e f = impossible (cc)
 
 -- ── tests without branches ──
 

@@ -64,8 +64,8 @@ fn all_of_eight<T: Test>(s: &[u8], at: usize) -> bool
     ensures { result ≡ true → AllOf T.passing s.now at (at + 8) }
 {
     let mut good = true;
-    for k in 0..STEP {
-        good &= T::passes(s[at + k]);
+    for n in 0..STEP {
+        good &= T::passes(s[at + n]);
     }
     good
 }
@@ -81,9 +81,9 @@ fn run<T: Test>(s: &[u8], at: usize) -> usize
             break i;
         }
         if !all_of_eight::<T>(s, i) {
-            for k in i..i + STEP {
-                if !T::passes(s[k]) {
-                    break 'run k;
+            for k in 0..STEP {
+                if !T::passes(s[i + k]) {
+                    break 'run i + k;
                 }
             }
         }
