@@ -5,9 +5,8 @@ use borrow.Author.Rules.{rules}
 use borrow.Author.Tests.{le-leb, lt-leb, eq-eqb, ne_eqb}
 use Rattle.keys.specs.Keys.{number_of}
 use Rattle.keys.proofs.Keying.{no_fault, a_fault}
-use Rattle.rules_judge.specs.Judging.{to_least}
-use Rattle.rules_judge.specs.declared.Least.{Least}
-use Rattle.tally_tag.specs.declared.Leaves.{Leaves}
+use Rattle.rules_judge.specs.Judging.{Least, to_least}
+use Rattle.tally_tag.specs.Tallying.{Leaves}
 use Rattle.judges_state.specs.Decoded.{least_in}
 use Rattle.tallies_state.specs.Flat.{leaves_of}
 use Rattle.plan_stages.specs.declared.Planned.{Planned}

@@ -1,14 +1,12 @@
 -- What the planner knows of a text before it looks at the caller's table, and what its answers mean.
-use Rattle.std.specs.Prelude.{List, cond, ℕ, ◌*◌, ◌≤◌, leb, ℤ, length, take}
+use Rattle.std.specs.Prelude.{Some, None, List, cond, ℕ, ◌*◌, ◌≤◌, leb, ℤ, length, take}
 use Rattle.cdi.specs.Faults.{fault, Answer, accepted, refused, ◌and_then◌}
 use Rattle.cdi.specs.Tree.{Nodes}
 use Rattle.cdi.specs.Walk.{total}
 use Rattle.cdi.specs.Table.{table_of, records_of}
 use Rattle.cdi.specs.Planning.{Description, Counts, markup, elements, addressing, counting, described, placed}
-use Rattle.rules_judge.specs.declared.Least.{Least}
-use Rattle.rules_judge.specs.declared.Least.TheVariants.{Nothing, Is}
-use Rattle.tally_tag.specs.declared.Leaves.{Leaves}
-use Rattle.tally_tag.specs.declared.Leaves.TheVariants.{Never, At}
+use Rattle.rules_judge.specs.Judging.{Least}
+use Rattle.tally_tag.specs.Tallying.{Leaves}
 use Rattle.plan_stages.specs.declared.Planned.{Planned}
 use Rattle.plan_stages.specs.declared.Planned.TheVariants.{Accepted, Refused}
 
@@ -65,13 +63,13 @@ counted_by n v root = cond (leb v 1000000) (Accepted n v) (Refused 12 root)
 
 -- 11, or else what comes next
 unfoldable pub addressed_by : Leaves → Planned → Planned
-addressed_by (At p) r = Refused 11 p
-addressed_by Never r = r
+addressed_by (Some p) r = Refused 11 p
+addressed_by None r = r
 
 -- 8 to 10, or else what comes next
 unfoldable pub ruled_by : Least → Planned → Planned
-ruled_by (Is f) r = Refused f.number f.place
-ruled_by Nothing r = r
+ruled_by (Some f) r = Refused f.number f.place
+ruled_by None r = r
 
 -- 8 to 12, by the least fault, the first segment that leaves the addresses, records, variables and the root's place
 unfoldable pub settled_by : Least → Leaves → ℕ → ℕ → ℕ → Planned
