@@ -147,6 +147,14 @@ module _ (n k h : ℕ) (signed negative : Bool) (e : h ≡ 2 ^ (8 * size_at n - 
 
 pub ruleset storing = (signed_below, signed_above, plain_below, plain_above, rules)
 
+-- ── where it is asked ──
+
+pub in_order : (asked n q : Bool) (m p : ℕ) (a b : Signed) {r : Bool} → asked ≡ true → nearest a ≡ with_sign n m → nearest b ≡ with_sign q p → r ≡ le_z (nearest a) (nearest b)
+    → r ≡ (not asked || le_z (with_sign n m) (with_sign q p))
+in_order asked n q m p a b e f g h = h ∙ rw (e, f, g)
+
+pub ruleset asking = (in_order, rules)
+
 -- ── the faults of min and max ──
 
 module _ (n : ℕ) where

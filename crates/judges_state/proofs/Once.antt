@@ -2,7 +2,7 @@
 use mathlib.Core.Path.{◌≡◌, sym, ◌∙◌}
 use mathlib.Core.Bool.{Bool, false}
 use Prim.Native.Nat.{ℕ}
-use Rattle.rules_judge.specs.declared.Least.TheVariants.{Nothing}
+use Rattle.std.specs.Prelude.{None}
 use Rattle.rules_judge.specs.Judging.{fresh}
 use Rattle.judges_state.specs.declared.Judge.{Judge}
 use Rattle.judges_state.specs.Decoded.{least_in, judge_of}
@@ -11,5 +11,5 @@ module _ (q r : Judge) where
   pub fresh_once : (least row : ℕ) (numeric : Bool) → judge_of q ≡ fresh (least_in least) row numeric → judge_of r ≡ fresh (least_in least) row numeric → judge_of q ≡ judge_of r
   fresh_once least row numeric e f = e ∙ sym f
 
-  pub start_once : judge_of q ≡ fresh Nothing 0 false → judge_of r ≡ fresh Nothing 0 false → judge_of q ≡ judge_of r
+  pub start_once : judge_of q ≡ fresh None 0 false → judge_of r ≡ fresh None 0 false → judge_of q ≡ judge_of r
   start_once e f = e ∙ sym f

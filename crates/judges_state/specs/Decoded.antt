@@ -1,12 +1,11 @@
 -- What the numbers of a judge mean.
 use Rattle.std.specs.Prelude.{Bool, cond, ℕ, ◌≤◌, eqb}
 use Rattle.keys.specs.Keys.{fault_in}
-use Rattle.rules_judge.specs.declared.Least.{Least}
 use Rattle.rules_judge.specs.declared.Said.{Said}
 use Rattle.rules_judge.specs.declared.Said.TheVariants.{Silent, No, Large, Value}
 use Rattle.rules_judge.specs.declared.Bound.{Bound}
 use Rattle.rules_judge.specs.declared.Judge.{Judge as Known}
-use Rattle.rules_judge.specs.Judging.{to_least}
+use Rattle.rules_judge.specs.Judging.{Least, to_least}
 use Rattle.judges_state.specs.declared.Judge.{Judge}
 
 -- the least fault by its key

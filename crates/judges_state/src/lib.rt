@@ -1,8 +1,7 @@
 // What is known of an element while its content is read, as plain numbers: nothing of it is an enum, and its bools stand side by side.
 #![tactic(auto)]
 
-ghost use Rattle.std.specs.Prelude.{◌≡◌, false};
-ghost use Rattle.rules_judge.specs.declared.Least.TheVariants.{Nothing};
+ghost use Rattle.std.specs.Prelude.{◌≡◌, None, false};
 ghost use Rattle.rules_judge.specs.Judging.{fresh as fresh_judge};
 ghost use Rattle.judges_state.specs.Decoded.{least_in, judge_of, Placed};
 
@@ -63,7 +62,7 @@ pub fn fresh(least: usize, row: usize, numeric: bool) -> Judge
 
 // The judge of the text itself, of which nothing is read yet.
 pub fn start() -> Judge
-    ensures result_value { judge_of result ≡ fresh_judge Nothing 0 false }
+    ensures result_value { judge_of result ≡ fresh_judge None 0 false }
     ensures places { Placed result }
 {
     fresh(NOTHING, 0, false)

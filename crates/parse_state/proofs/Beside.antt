@@ -13,7 +13,7 @@ use Rattle.cdi.proofs.Named.{attributes_behind}
 use Rattle.names.specs.Names.{element_number}
 use Rattle.rules_judge.specs.Judging as J
 use Rattle.rules_judge.specs.Tables.{entry_at}
-use Rattle.rules_judge.specs.declared.Least.TheVariants.{Nothing}
+use Rattle.std.specs.Prelude.{None}
 use Rattle.rules_judge.specs.declared.Said.{Said}
 use Rattle.rules_judge.specs.declared.Judge.{Judge as Known}
 use Rattle.keys.specs.Keys.{fault_in}
@@ -62,7 +62,7 @@ fits a b c = record { placed = a; kept = b; few = c }
 pub left_fits : {j : Judge} {g : Tally} (inner : State) → Placed j → Kept g → g.records ≡ inner.tally.records → Fits inner → Fits (record { judge = j; tally = g })
 left_fits inner a b c v = record { placed = a; kept = b; few = omega (arith, c, v.few) }
 
-pub started : (j : Judge) (g : Tally) → judge_of j ≡ J.fresh Nothing 0 false → tally_of g ≡ G.at_start → g.root ≡ 0 → state_of (record { judge = j; tally = g }) ≡ at_first
+pub started : (j : Judge) (g : Tally) → judge_of j ≡ J.fresh None 0 false → tally_of g ≡ G.at_start → g.root ≡ 0 → state_of (record { judge = j; tally = g }) ≡ at_first
 unfolding state_of at_first
 started j g e f h = beside e f h
 

@@ -1,9 +1,8 @@
 -- What is summed up along the way: how the state changes at each step of the tree, and what leaving an element writes to the table. Parsing
 -- is proved for any such definitions and never looks into them.
-use Rattle.std.specs.Prelude.{List, false, cond, ℕ, eqb, ℤ}
+use Rattle.std.specs.Prelude.{None, List, false, cond, ℕ, eqb, ℤ}
 use Rattle.cdi.specs.Pieces.{Attribute, Piece}
 use Rattle.rules_judge.specs.Judging as J
-use Rattle.rules_judge.specs.declared.Least.TheVariants.{Nothing}
 use Rattle.tally_tag.specs.Tallying as G
 use Rattle.parse_sums.specs.declared.State.{State}
 
@@ -13,7 +12,7 @@ records_of st = st.tally.records
 
 -- the state before the text
 unfoldable pub at_first : State
-at_first = record { judge = J.fresh Nothing 0 false; tally = G.at_start; root = 0 }
+at_first = record { judge = J.fresh None 0 false; tally = G.at_start; root = 0 }
 
 -- the state inside an element whose start tag has this place, name and attributes; the first at level 0 is the root
 unfoldable pub enter_of : State → ℕ → List ℕ → List Attribute → State

@@ -9,16 +9,14 @@ use borrow.Author.Rules.{rules}
 use lib.Dec.{leb}
 use lib.IntN.{ℤ}
 use lib.ListN.{length}
-use Rattle.std.specs.Prelude.{Result, Ok, Err}
+use Rattle.std.specs.Prelude.{Some, None, Result, Ok, Err}
 use Rattle.cdi.specs.Faults.{Fault, fault, least, Answer, ◌and_then◌, stage}
 use Rattle.cdi.specs.Markup.{progress, markup_faults}
 use Rattle.cdi.specs.Tree.{tree}
 use Rattle.cdi.specs.Planning.{cut, markup}
-use Rattle.rules_judge.specs.declared.Least.{Least}
-use Rattle.rules_judge.specs.declared.Least.TheVariants.{Nothing, Is}
+use Rattle.rules_judge.specs.Judging.{Least}
 use Rattle.judges_state.specs.Decoded.{least_in, judge_of}
-use Rattle.tally_tag.specs.declared.Leaves.{Leaves}
-use Rattle.tally_tag.specs.declared.Leaves.TheVariants.{Never, At}
+use Rattle.tally_tag.specs.Tallying.{Leaves}
 use Rattle.tallies_state.specs.Flat.{leaves_of, tally_of}
 use Rattle.parse_sums.specs.Sums.{at_first, records_of}
 use Rattle.parse_laws.proofs.Outside.{clean, folded_all}
@@ -48,13 +46,13 @@ few_counted n v root h = by (leb v 1000000)
 
 few_addressed : (l : Leaves) (r : Result Planned Refusal) → Few r → Few (addressed_by l r)
 unfolding addressed_by Few
-few_addressed Never r h = h
-few_addressed (At p) r h = tt
+few_addressed None r h = h
+few_addressed (Some p) r h = tt
 
 few_ruled : (l : Least) (r : Result Planned Refusal) → Few r → Few (ruled_by l r)
 unfolding ruled_by Few
-few_ruled Nothing r h = h
-few_ruled (Is f) r h = tt
+few_ruled None r h = h
+few_ruled (Some f) r h = tt
 
 pub few_refused : (r : Refusal) → Few (Err r)
 unfolding Few

@@ -11,7 +11,7 @@ use lib.Dec.{leb}
 use lib.IntN.{ℤ, pos}
 use lib.ListN.{length, take, replicate, length-append, length-replicate}
 use lib.Seq.{sets, sets-eq, take_at, take-append_seam}
-use Rattle.std.specs.Prelude.{Result, Ok, Err}
+use Rattle.std.specs.Prelude.{Some, None, Result, Ok, Err}
 use Rattle.cdi.specs.Faults.{Fault, fault, least, Answer, accepted, refused, ◌and_then◌}
 use Rattle.cdi.specs.Tree.{Nodes}
 use Rattle.cdi.specs.Rules.{element_faults}
@@ -22,15 +22,12 @@ use Rattle.cdi.proofs.Quiet.{quiet}
 use Rattle.cdi.proofs.PlanOf.{length_table}
 use Rattle.scan.proofs.Tests.{lt_or_le}
 use Rattle.rules_judge.specs.declared.Judge.{Judge}
-use Rattle.rules_judge.specs.declared.Least.{Least}
-use Rattle.rules_judge.specs.declared.Least.TheVariants.{Nothing, Is}
+use Rattle.rules_judge.specs.Judging.{Least}
 use Rattle.rules_judge.specs.Judging as J
 use Rattle.rules.proofs.Judged.{judged}
 use Rattle.tally_tag.specs.declared.Tally.{Tally}
-use Rattle.tally_tag.specs.declared.Leaves.{Leaves}
-use Rattle.tally_tag.specs.declared.Leaves.TheVariants.{Never, At}
 use Rattle.tally_tag.specs.Tallying as G
-use Rattle.tally_tag.specs.Tallying.{Tallied}
+use Rattle.tally_tag.specs.Tallying.{Leaves, Tallied}
 use Rattle.tally.proofs.Tallied.{records_tallied, leaves_tallied, total_tallied, table_tallied}
 use Rattle.parse_sums.specs.declared.State.{State}
 use Rattle.parse_sums.specs.Sums.{at_first}
@@ -145,15 +142,15 @@ module _ (t : List ℤ) (u : Nodes) (st : State) (t' : List ℤ) (q : folded st 
 
       measures : (l : Leaves) → st.tally.leaves ≡ l → said_of (addressed_by l last) t' ≡ (addressing told and_then counting and_then outlined)
       unfolding G.as_fault addressed_by said_of
-      measures Never e = let k = sym leaves_are ∙ ap G.as_fault e in counted k ∙ sym (keeps told k)
-      measures (At p) e = sym (keeps_not told (sym leaves_are ∙ ap G.as_fault e))
+      measures None e = let k = sym leaves_are ∙ ap G.as_fault e in counted k ∙ sym (keeps told k)
+      measures (Some p) e = sym (keeps_not told (sym leaves_are ∙ ap G.as_fault e))
 
     judges : (l : Least) → st.judge.least ≡ l → said_of (ruled_by l (addressed_by st.tally.leaves last)) t' ≡ of_tree u
     unfolding J.as_fault ruled_by said_of
-    judges Nothing e =
+    judges None e =
         let k = sym least_is ∙ ap J.as_fault e in
         measures (quiet (element_faults u) k) st.tally.leaves refl ∙ sym (clean u k)
-    judges (Is f) e = sym (unclean u (sym least_is ∙ ap J.as_fault e))
+    judges (Some f) e = sym (unclean u (sym least_is ∙ ap J.as_fault e))
 
     -- Where the table had room for all records, the state at the end settles stages 8 to 12.
     settles_in_room : said_of (settled_of st) t' ≡ of_tree u

@@ -3,14 +3,11 @@ use mathlib.Core.Path.{◌≡◌, refl}
 use Prim.Native.Nat.{ℕ, ◌/◌, ◌%◌, ◌≤◌, ◌<◌}
 use borrow.Author.Rules.{rules}
 use borrow.Author.Tests.{le-leb, lt-leb, eq-eqb, ne_eqb}
-use Rattle.std.specs.Prelude.{Result, Ok, Err}
+use Rattle.std.specs.Prelude.{Some, None, Result, Ok, Err}
 use Rattle.keys.specs.Keys.{number_of}
 use Rattle.keys.proofs.Keying.{no_fault, a_fault}
-use Rattle.rules_judge.specs.Judging.{to_least}
-use Rattle.rules_judge.specs.declared.Least.{Least}
-use Rattle.rules_judge.specs.declared.Least.TheVariants.{Nothing, Is}
-use Rattle.tally_tag.specs.declared.Leaves.{Leaves}
-use Rattle.tally_tag.specs.declared.Leaves.TheVariants.{Never, At}
+use Rattle.rules_judge.specs.Judging.{Least, to_least}
+use Rattle.tally_tag.specs.Tallying.{Leaves}
 use Rattle.judges_state.specs.Decoded.{least_in}
 use Rattle.tallies_state.specs.Flat.{leaves_of}
 use Rattle.refusals.specs.declared.Refusal.{Refusal}
@@ -47,23 +44,23 @@ module _ {A : Type 0} (r : Result A Refusal) where
 module _ {A : Type 0} (next : Result A Refusal) where
   pub rules_refuse : {r : Refusal} (l : Least) → Err r ≡ ruled_by l (Ok (tt {0})) → Err r ≡ ruled_by l next
   unfolding ruled_by
-  rules_refuse (Is f) e = cc
-  rules_refuse Nothing e = absurd (cc)
+  rules_refuse (Some f) e = cc
+  rules_refuse None e = absurd (cc)
 
   pub rules_pass : {y : Unit {0}} (l : Least) → Ok y ≡ ruled_by l (Ok (tt {0})) → next ≡ ruled_by l next
   unfolding ruled_by
-  rules_pass (Is f) e = absurd (cc)
-  rules_pass Nothing e = refl
+  rules_pass (Some f) e = absurd (cc)
+  rules_pass None e = refl
 
   pub addresses_refuse : {r : Refusal} (m : Leaves) → Err r ≡ addressed_by m (Ok (tt {0})) → Err r ≡ addressed_by m next
   unfolding addressed_by
-  addresses_refuse (At p) e = cc
-  addresses_refuse Never e = absurd (cc)
+  addresses_refuse (Some p) e = cc
+  addresses_refuse None e = absurd (cc)
 
   pub addresses_pass : {y : Unit {0}} (m : Leaves) → Ok y ≡ addressed_by m (Ok (tt {0})) → next ≡ addressed_by m next
   unfolding addressed_by
-  addresses_pass (At p) e = absurd (cc)
-  addresses_pass Never e = refl
+  addresses_pass (Some p) e = absurd (cc)
+  addresses_pass None e = refl
 
 pub ruleset stages_passed = (rules_refuse, rules_pass, addresses_refuse, addresses_pass)
 

@@ -1,14 +1,12 @@
 -- What the planner knows of a text before it looks at the caller's table, and what its answers mean.
-use Rattle.std.specs.Prelude.{List, cond, ℕ, ◌*◌, ◌≤◌, leb, ℤ, length, take, Result, Ok, Err}
+use Rattle.std.specs.Prelude.{Some, None, List, cond, ℕ, ◌*◌, ◌≤◌, leb, ℤ, length, take, Result, Ok, Err}
 use Rattle.cdi.specs.Faults.{Answer, accepted, refused, ◌and_then◌}
 use Rattle.cdi.specs.Tree.{Nodes}
 use Rattle.cdi.specs.Walk.{total}
 use Rattle.cdi.specs.Table.{table_of, records_of}
 use Rattle.cdi.specs.Planning.{Description, Counts, markup, elements, addressing, counting, described, placed}
-use Rattle.rules_judge.specs.declared.Least.{Least}
-use Rattle.rules_judge.specs.declared.Least.TheVariants.{Nothing, Is}
-use Rattle.tally_tag.specs.declared.Leaves.{Leaves}
-use Rattle.tally_tag.specs.declared.Leaves.TheVariants.{Never, At}
+use Rattle.rules_judge.specs.Judging.{Least}
+use Rattle.tally_tag.specs.Tallying.{Leaves}
 use Rattle.refusals.specs.declared.Refusal.{Refusal}
 use Rattle.refusals.specs.Refusals.{refusal, fault_of}
 use Rattle.plan_stages.specs.declared.Planned.{Planned}
@@ -71,13 +69,13 @@ counted_by n v root = cond (leb v 1000000) (Ok (sizes n v)) (Err (refusal 12 roo
 module _ {A : Type 0} where
   -- 11, or else what comes next
   unfoldable pub addressed_by : Leaves → Result A Refusal → Result A Refusal
-  addressed_by (At p) r = Err (refusal 11 p)
-  addressed_by Never r = r
+  addressed_by (Some p) r = Err (refusal 11 p)
+  addressed_by None r = r
 
   -- 8 to 10, or else what comes next
   unfoldable pub ruled_by : Least → Result A Refusal → Result A Refusal
-  ruled_by (Is f) r = Err (refusal f.number f.place)
-  ruled_by Nothing r = r
+  ruled_by (Some f) r = Err (refusal f.number f.place)
+  ruled_by None r = r
 
 -- 8 to 12, by the least fault, the first segment that leaves the addresses, records, variables and the root's place
 unfoldable pub settled_by : Least → Leaves → ℕ → ℕ → ℕ → Result Planned Refusal

@@ -16,7 +16,7 @@ use Rattle.cdi.specs.Rules as R
 use Rattle.cdi.specs.Rules.{Before, nothing_before, behind, child_faults, own_number, bound_of, bounds_of, is_signed, bound_faults, tested, size_text, size_of, is_int, int_faults}
 use Rattle.cdi.proofs.Quiet.{impossible, same_equal, same_comm}
 use Rattle.cdi.proofs.Tests.{both_left, both_right}
-use Rattle.rules_judge.specs.declared.Least.{Least}
+use Rattle.rules_judge.specs.Judging.{Least}
 use Rattle.rules_judge.specs.declared.Bound.{Bound}
 use Rattle.rules_judge.specs.declared.Said.{Said}
 use Rattle.rules_judge.specs.declared.Said.TheVariants.{Silent}

@@ -14,7 +14,7 @@ use Rattle.cdi.specs.Numbers.{number, bounded}
 use Rattle.cdi.specs.Rules.{entry_of, range_faults, own_text, own_number, number_names, number_faults, is_int}
 use Rattle.cdi.proofs.Quiet.{impossible}
 use Rattle.rules_judge.specs.declared.Judge.{Judge}
-use Rattle.rules_judge.specs.declared.Least.{Least}
+use Rattle.rules_judge.specs.Judging.{Least}
 use Rattle.rules_judge.specs.declared.Said.{Said}
 use Rattle.rules_judge.specs.declared.Said.TheVariants.{Silent, No, Large, Value}
 use Rattle.names.specs.Names.{element_number}

@@ -12,8 +12,8 @@ use Rattle.cdi.specs.Rows.{Row, row_of}
 use Rattle.cdi.specs.Rules.{Before, nothing_before, behind, entry_of, child_faults, stray_faults, attribute_faults, missing_faults, number_faults, int_faults, own_faults, is_int, is_known, faults_in, element_faults, unknown_element}
 use Rattle.cdi.proofs.Least.{lesser_assoc, lesser_comm, lesser_none, least_append}
 use Rattle.rules_judge.specs.declared.Judge.{Judge}
-use Rattle.rules_judge.specs.declared.Least.{Least}
-use Rattle.rules_judge.specs.declared.Least.TheVariants.{Nothing}
+use Rattle.rules_judge.specs.Judging.{Least}
+use Rattle.std.specs.Prelude.{None}
 use Rattle.names.specs.Names.{element_number}
 use Rattle.rules_judge.specs.Judging.{as_fault, blamed, row_at, is_foreign, fresh, entry_faults, enter_of, other_of, missing, number_blame, int_blame, passed, leave_of, judge_nodes}
 use Rattle.rules_judge.proofs.Blamed.{blamed_least}
@@ -144,6 +144,6 @@ holds (element p n s kids following) k in_int j b judged r l =
     ∙ rw (child_least judged r p n s kids b (holds kids) l (entry_of (row_at k) n) refl, lesser_assoc, ← least_append, append_assoc)
 
 -- Judging a text's elements finds the least of their faults.
-pub judged : (t : Nodes) → as_fault (judge_nodes (fresh Nothing 0 false) t).least ≡ least (element_faults t)
+pub judged : (t : Nodes) → as_fault (judge_nodes (fresh None 0 false) t).least ≡ least (element_faults t)
 unfolding element_faults fresh as_fault lesser row_at
-judged t = holds t 0 false (fresh Nothing 0 false) nothing_before refl (record { row = refl; numeric = refl }) like_nothing
+judged t = holds t 0 false (fresh None 0 false) nothing_before refl (record { row = refl; numeric = refl }) like_nothing

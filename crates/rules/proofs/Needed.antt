@@ -13,7 +13,7 @@ use Rattle.cdi.specs.Rows.{row_of, rows_page}
 use Rattle.cdi.specs.Rules.{missing_child, entry_from, entry_of, has_child, missing_faults}
 use Rattle.cdi.proofs.Quiet.{same_equal, same_self}
 use Rattle.rules_judge.specs.declared.Judge.{Judge}
-use Rattle.rules_judge.specs.declared.Least.{Least}
+use Rattle.rules_judge.specs.Judging.{Least}
 use Rattle.names.specs.Names.{element_number}
 use Rattle.rules_judge.specs.Judging.{row_at, is_foreign, fresh, enter_of, other_of, missing, passed, leave_of, judge_nodes, judging_page}
 use Rattle.rules.proofs.Named.{Numbered}

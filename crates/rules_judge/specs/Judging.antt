@@ -1,5 +1,6 @@
 -- What the judge of an element's content knows: entering a child, any other piece, leaving a child.
-use Rattle.std.specs.Prelude.{List, [], ◌∷◌, ◌++◌, map, Bool, true, false, cond, not, ◌&&◌, ◌||◌, ℕ, ◌-◌, max, ℤ, pos, nat_abs, get_or, eqb, leb, ltb}
+use Rattle.std.specs.Prelude as std
+use Rattle.std.specs.Prelude.{Some, None, List, [], ◌∷◌, ◌++◌, map, Bool, true, false, cond, not, ◌&&◌, ◌||◌, ℕ, ◌-◌, max, ℤ, pos, nat_abs, get_or, eqb, leb, ltb}
 use Rattle.std.proofs.Math.Option.{Option, none, some}
 use Rattle.std.specs.Int.Signed.{le_z, lt_z}
 use Rattle.cdi.specs.Lists.{ascii, given, is_empty, same, among}
@@ -12,11 +13,10 @@ use Rattle.cdi.specs.Rows.{Row, row_of, document_row, int_sizes}
 use Rattle.cdi.specs.Rules.{unknown_element, out_of_order, too_often, missing_child, no_number, out_of_range, attribute_faults, entry_of, stray_faults, number_names, storable, largest, size_text, size_of, is_int}
 use Rattle.cdi.specs.Values.{with_sign}
 use Rattle.names.specs.Names.{element_names, number_among, element_number}
+use Rattle.refusals.specs.declared.Refusal.{Refusal}
+use Rattle.refusals.specs.Refusals.{refusal, fault_of}
 use Rattle.terms.specs.declared.Whole.{Whole}
 use Rattle.terms.specs.Wholes.{whole_of}
-use Rattle.rules_judge.specs.declared.Fault.{Fault}
-use Rattle.rules_judge.specs.declared.Least.{Least}
-use Rattle.rules_judge.specs.declared.Least.TheVariants.{Nothing, Is}
 use Rattle.rules_judge.specs.declared.Said.{Said}
 use Rattle.rules_judge.specs.declared.Said.TheVariants.{Silent, No, Large, Value}
 use Rattle.rules_judge.specs.declared.Bound.{Bound}
@@ -24,13 +24,17 @@ use Rattle.rules_judge.specs.declared.Judge.{Judge}
 
 -- ── the least fault ──
 
+-- the least fault so far
+abbrev pub Least : Type 0
+Least = std.Option Refusal
+
 unfoldable pub as_fault : Least → Option F.Fault
-as_fault Nothing = none
-as_fault (Is f) = some (F.fault f.number f.place)
+as_fault None = none
+as_fault (Some f) = some (fault_of f)
 
 unfoldable pub to_least : Option F.Fault → Least
-to_least none = Nothing
-to_least (some f) = Is (record { number = f.number; place = f.place })
+to_least none = None
+to_least (some f) = Some (refusal f.number f.place)
 
 -- the least with these faults more
 unfoldable pub blamed : Least → List F.Fault → Least

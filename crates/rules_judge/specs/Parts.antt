@@ -4,11 +4,10 @@ use Rattle.cdi.specs.Lists.{is_empty}
 use Rattle.cdi.specs.Faults.{Fault, unless}
 use Rattle.cdi.specs.Pieces.{Attribute}
 use Rattle.cdi.specs.Rules.{missing_child}
-use Rattle.rules_judge.specs.declared.Least.{Least}
 use Rattle.rules_judge.specs.declared.Said.{Said}
 use Rattle.rules_judge.specs.declared.Said.TheVariants.{No}
 use Rattle.rules_judge.specs.declared.Judge.{Judge}
-use Rattle.rules_judge.specs.Judging.{said_faults, is_value, bound_blame, bounding}
+use Rattle.rules_judge.specs.Judging.{Least, said_faults, is_value, bound_blame, bounding}
 
 -- the numbers of min, max, default and property
 unfoldable pub is_numeric : ℕ → Bool

@@ -105,9 +105,11 @@ pub ruleset exacts = (first_size, later_size, no_size, rules)
 
 -- ── a value ──
 
-pub first_is : (a : ℕ) (codes : List ℕ) {i : ℕ} → i ≡ a → (not (eqb a 0) && eqb (get_or codes i 0) 0) ≡ is_first a codes
+pub first_is : (a : ℕ) (codes : List ℕ) {i : ℕ} → i ≡ a → (a ≡ 0 → ⊥) → eqb (get_or codes i 0) 0 ≡ is_first a codes
 unfolding is_first
-first_is a codes e = rw e
+first_is a codes e f = rw (e, ne_eqb a 0 f)
+
+pub ruleset testing = (first_is, rules)
 
 module _ (a : ℕ) (v codes amounts : List ℕ) {t : Bool} (e : t ≡ is_first a codes) where
   pub first_low : t ≡ true → 1 ≤ a

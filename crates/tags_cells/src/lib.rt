@@ -10,19 +10,13 @@ use tags_values::hold;
 
 const SIZE: usize = 9;
 
-fn wide(number: u8) -> usize
-    ensures { result ≡ number }
-{
-    number as usize
-}
-
 // Is it the first attribute of a known name?
+#[tactic(auto, unfolding(crate::specs::Cells::is_first))]
 fn is_first(a: u8, codes: &[u8; 11]) -> bool
     requires { a ≤ 10 }
     ensures { result ≡ is_first a codes.now }
 {
-    let i = wide(a);
-    (a != 0) & (codes[i] == 0)
+    a != 0 && codes[usize::from(a)] == 0
 }
 
 // Notes the value of an attribute of that number.
@@ -33,30 +27,25 @@ pub fn note(value: &[u8], a: u8, codes: &mut [u8; 11], amounts: &mut [u64; 11])
 {
     if is_first(a, codes) {
         let held = hold(value, a);
-        let i = wide(a);
+        let i = usize::from(a);
         codes[i] = held.code;
         amounts[i] = held.amount;
     }
 }
 
 // The size that one byte says, or 0.
+#[tactic(auto, unfolding(crate::specs::Cells::size_of_byte))]
 fn size_of(b: u8) -> u8
     ensures value { result ≡ size_of_byte b }
     ensures bounds { result ≤ 8 }
 {
-    if b == b'1' {
-        return 1;
+    match b {
+        b'1' => 1,
+        b'2' => 2,
+        b'4' => 4,
+        b'8' => 8,
+        _ => 0,
     }
-    if b == b'2' {
-        return 2;
-    }
-    if b == b'4' {
-        return 4;
-    }
-    if b == b'8' {
-        return 8;
-    }
-    0
 }
 
 // The size that a text says exactly, blanks at its ends aside, or 0.
@@ -79,23 +68,22 @@ fn size_in(value: &[u8]) -> u8
     ensures value { result ≡ size_in value.now }
     ensures bounds { result ≤ 8 }
 {
-    if value.len() == 1 {
-        return size_of(value[0]);
+    match value {
+        [b] => size_of(*b),
+        _ => size_within(value),
     }
-    size_within(value)
 }
 
 // The exact size, where the value is that of the first `size`.
+#[tactic(auto, unfolding(crate::specs::Cells::with_exact))]
 pub fn exact_with(value: &[u8], a: u8, codes: &[u8; 11], exact: u8) -> u8
     requires { exact ≤ 8 }
     ensures value { result ≡ with_exact a value.now codes.now exact }
     ensures bounds { result ≤ 8 }
 {
-    if a == 9 {
-        if codes[SIZE] == 0 {
-            return size_in(value);
-        }
-        return exact;
+    if a == 9 && codes[SIZE] == 0 {
+        size_in(value)
+    } else {
+        exact
     }
-    exact
 }

@@ -59,6 +59,8 @@ pub bit_is : (s n : ℕ) {m : ℕ} → m ≡ n → eqb ((s / 2 ^ m) % 2) 1 ≡ h
 unfolding has_bit
 bit_is s n e = rw e
 
+pub ruleset bits = (bit_is, rules)
+
 pub ruleset known_sets_law = (set_is, set_none, rules)
 
 -- ── the faults ──

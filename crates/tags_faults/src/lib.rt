@@ -42,21 +42,15 @@ const KNOWN: [u64; 12] = [
     0,
 ];
 
-fn wide(number: u8) -> usize
-    ensures { result ≡ number }
-{
-    number as usize
-}
-
 // The attributes that an element knows, as bits of a number.
 pub fn known_to(element: u8) -> u64
     ensures { result ≡ known_set element }
 {
     if element < 12 {
-        let i = wide(element);
-        return KNOWN[i];
+        KNOWN[usize::from(element)]
+    } else {
+        0
     }
-    0
 }
 
 // Is the attribute of that number among these?
@@ -64,7 +58,7 @@ pub fn is_among(set: u64, number: u8) -> bool
     requires { number ≤ 10 }
     ensures { result ≡ has_bit set number }
 {
-    (set >> wide(number)) % 2 == 1
+    (set >> usize::from(number)) % 2 == 1
 }
 
 // The one of two numbers of faults that comes first, of which 0 is none.
@@ -72,15 +66,14 @@ fn lesser(m: u8, n: u8) -> u8
     ensures { result ≡ lesser_of m n }
 {
     if m == 0 {
-        return n;
+        n
+    } else if n == 0 {
+        m
+    } else if rank_of(usize::from(n)) < rank_of(usize::from(m)) {
+        n
+    } else {
+        m
     }
-    if n == 0 {
-        return m;
-    }
-    if rank_of(wide(n)) < rank_of(wide(m)) {
-        return n;
-    }
-    m
 }
 
 fn least(one: u8, two: u8, three: u8) -> u8
@@ -90,56 +83,49 @@ fn least(one: u8, two: u8, three: u8) -> u8
 }
 
 // The fault of a number that is there.
+#[tactic(auto, unfolding(crate::specs::Told::own_by))]
 fn own(code: u8) -> u8
     ensures { result ≡ own_by code }
 {
-    if code < 3 {
-        return 0;
-    }
-    code
+    if code < 3 { 0 } else { code }
 }
 
 // The same of one that must be there.
+#[tactic(auto, unfolding(crate::specs::Told::needed_by))]
 fn needed(code: u8) -> u8
     ensures { result ≡ needed_by code }
 {
-    if code == 0 {
-        return 86;
-    }
-    own(code)
+    if code == 0 { 86 } else { own(code) }
 }
 
 // The fault of a text that must be there.
+#[tactic(auto, unfolding(crate::specs::Told::there_by))]
 fn needed_text(code: u8) -> u8
     ensures { result ≡ there_by code }
 {
-    if code == 0 {
-        return 86;
-    }
-    0
+    if code == 0 { 86 } else { 0 }
 }
 
 // The fault of an int's size, by the exact size that its text says.
+#[tactic(auto, unfolding(crate::specs::Told::int_by))]
 fn int_fault(exact: u8) -> u8
     ensures { result ≡ int_by exact }
 {
-    if exact < 1 {
-        return 10;
-    }
-    0
+    if exact < 1 { 10 } else { 0 }
 }
 
 // The same of a float's.
+#[tactic(auto, unfolding(crate::specs::Told::float_by))]
 fn float_fault(code: u8, exact: u8) -> u8
     ensures { result ≡ float_by code exact }
 {
     if code == 0 {
-        return 86;
+        86
+    } else if exact < 2 {
+        10
+    } else {
+        0
     }
-    if exact < 2 {
-        return 10;
-    }
-    0
 }
 
 // The attributes of cdi, of acdi, of a segment and of a group.
@@ -147,19 +133,13 @@ fn outer_fault(element: u8, codes: &[u8; 11]) -> u8
     requires { element < 6 }
     ensures { result ≡ rules_by element codes.now 0 }
 {
-    if element == 4 {
-        return least(needed(codes[SPACE]), own(codes[ORIGIN]), 0);
+    match element {
+        1 => least(needed_text(codes[NAMESPACE]), needed_text(codes[SCHEMA]), 0),
+        3 => least(own(codes[FIXED]), own(codes[VAR]), 0),
+        4 => least(needed(codes[SPACE]), own(codes[ORIGIN]), 0),
+        5 => least(own(codes[REPLICATION]), own(codes[OFFSET]), 0),
+        _ => 0,
     }
-    if element == 5 {
-        return least(own(codes[REPLICATION]), own(codes[OFFSET]), 0);
-    }
-    if element == 1 {
-        return least(needed_text(codes[NAMESPACE]), needed_text(codes[SCHEMA]), 0);
-    }
-    if element == 3 {
-        return least(own(codes[FIXED]), own(codes[VAR]), 0);
-    }
-    0
 }
 
 // Those of an int, a string, an eventid and a float.
@@ -168,27 +148,21 @@ fn inner_fault(element: u8, codes: &[u8; 11], exact: u8) -> u8
     ensures { result ≡ rules_by element codes.now exact }
 {
     let offset = own(codes[OFFSET]);
-    if element == 6 {
-        return least(int_fault(exact), offset, 0);
+    match element {
+        6 => least(int_fault(exact), offset, 0),
+        7 => least(needed(codes[SIZE]), offset, 0),
+        8 => least(offset, 0, 0),
+        _ => least(float_fault(codes[SIZE], exact), offset, 0),
     }
-    if element == 7 {
-        return least(needed(codes[SIZE]), offset, 0);
-    }
-    if element == 8 {
-        return least(offset, 0, 0);
-    }
-    least(float_fault(codes[SIZE], exact), offset, 0)
 }
 
 // The number of the least fault of a tag of that element.
 pub fn fault_of(element: u8, codes: &[u8; 11], exact: u8) -> u8
     ensures { result ≡ rules_by element codes.now exact }
 {
-    if element < 6 {
-        return outer_fault(element, codes);
+    match element {
+        0..=5 => outer_fault(element, codes),
+        6..=9 => inner_fault(element, codes, exact),
+        _ => 0,
     }
-    if element < 10 {
-        return inner_fault(element, codes, exact);
-    }
-    0
 }

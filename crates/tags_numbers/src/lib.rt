@@ -50,9 +50,10 @@ fn size_in(element: u8, size: u64) -> u64
     ensures { result ≡ cond (eqb element 8) 8 size }
 {
     if element == EVENTID {
-        return EVENTID_SIZE;
+        EVENTID_SIZE
+    } else {
+        size
     }
-    size
 }
 
 // The numbers of a tag of that element.
@@ -82,9 +83,10 @@ fn bare_width(element: u8) -> u64
     ensures { result ≡ cond (eqb element 4) 0 (cond (eqb element 8) 8 1) }
 {
     if element == SEGMENT {
-        return 0;
+        0
+    } else {
+        size_in(element, 1)
     }
-    size_in(element, 1)
 }
 
 // The numbers of a tag of that element that has no attributes.

@@ -5,10 +5,9 @@ use Prim.Native.Nat.{ℕ}
 use borrow.Author.Tests.{eqb-true}
 use lib.Dec.{eqb}
 use Rattle.cdi.proofs.Quiet.{impossible}
-use Rattle.tally_tag.specs.declared.Leaves.{Leaves}
-use Rattle.tally_tag.specs.declared.Leaves.TheVariants.{Never, At}
+use Rattle.std.specs.Prelude.{Some, None}
 use Rattle.tally_tag.specs.declared.Tally.{Tally as Known}
-use Rattle.tally_tag.specs.Tallying.{at_start}
+use Rattle.tally_tag.specs.Tallying.{Leaves, at_start}
 use Rattle.tally_tag.specs.Numbered.{enter_by}
 use Rattle.extent.specs.declared.Extent.{Extent}
 use Rattle.tallies_state.specs.declared.Tally.{Tally}
@@ -20,7 +19,7 @@ unfolding leaves_of
 leaves_known p q e = by (eqb p 18446744073709551615) refl (eqb q 18446744073709551615) refl e
   where
     either : Bool → ℕ → Leaves
-    either b n = cond b Never (At n)
+    either b n = cond b None (Some n)
 
     by : (a : Bool) → eqb p 18446744073709551615 ≡ a → (b : Bool) → eqb q 18446744073709551615 ≡ b → either a p ≡ either b q → p ≡ q
     by true x true y z = eqb-true p _ x ∙ sym (eqb-true q _ y)

@@ -12,7 +12,7 @@ use Rattle.cdi.specs.Tree.Nodes.{end, element, other}
 use Rattle.cdi.specs.Rows.{data_names}
 use Rattle.extent.specs.Reach.{nowhere, fits_at, join, held}
 use Rattle.extent.specs.declared.Extent.{Extent}
-use Rattle.tally_tag.specs.declared.Leaves.{Leaves}
+use Rattle.tally_tag.specs.Tallying.{Leaves}
 use Rattle.tally_tag.specs.declared.Tally.{Tally}
 use Rattle.tally_tag.specs.Tallying.{Tallied, numbers_of, is_group, is_segment, recorded, level_in, enter_of, own_extent, first_leaving, leave_of, record_of, written, tally_nodes}
 

@@ -22,8 +22,8 @@ use Rattle.cdi.proofs.Ranges.{judged, judged_other, kept}
 use Rattle.extent.specs.Reach.{extent_of, fits_at, held}
 use Rattle.extent.specs.declared.Extent.{Extent}
 use Rattle.extent.proofs.Holding.{held_keeps}
-use Rattle.tally_tag.specs.declared.Leaves.{Leaves}
-use Rattle.tally_tag.specs.declared.Leaves.TheVariants.{Never, At}
+use Rattle.tally_tag.specs.Tallying.{Leaves}
+use Rattle.std.specs.Prelude.{Some, None}
 use Rattle.tally_tag.specs.Tallying.{Tallied, as_fault, numbers_of, is_segment, kind_of, first_leaving, record_of, tally_nodes}
 use Rattle.tally.proofs.Levels.{tally, tallied, segment_tallied, aside_tallied}
 use Rattle.tally.proofs.Tags.{origin_most, origin_told, space_told}
@@ -141,15 +141,15 @@ segments_ranged r in_int b (element p n s kids following) h = by (is_segment n) 
 
 first_told : (k : Bool) (p : ℕ) (l : Leaves) (o : Option Fault) → (as_fault (first_leaving k p l) or_else o) ≡ (as_fault l or_else cond k o (some (fault 11 p)))
 unfolding as_fault first_leaving
-first_told true p Never o = refl
-first_told false p Never o = refl
-first_told k p (At q) o = refl
+first_told true p None o = refl
+first_told false p None o = refl
+first_told k p (Some q) o = refl
 
 -- The first segment that is found to leave the addresses is the one that does.
 pub leaves_told : (l : Leaves) (i : ℕ) (gs : List Segment) → Ranged gs → as_fault (first_of l i gs) ≡ (as_fault l or_else leaving i gs)
 unfolding as_fault first_of leaving Ranged segment_keeps walked
-leaves_told Never i [] h = refl
-leaves_told (At q) i [] h = refl
+leaves_told None i [] h = refl
+leaves_told (Some q) i [] h = refl
 leaves_told l i (g ∷ gs) h =
     let fits = fits_at g.origin (walked i g) in
     rw (held_keeps g.origin h.0 (segment_steps i g))

@@ -16,7 +16,7 @@ use Rattle.cdi.specs.Table.{table_of, records_from, records_of}
 use Rattle.cdi.specs.Planning.{describe, leaving}
 use Rattle.cdi.proofs.Ranges.{judged, judged_other}
 use Rattle.extent.specs.Reach.{nowhere}
-use Rattle.tally_tag.specs.declared.Leaves.TheVariants.{Never}
+use Rattle.std.specs.Prelude.{None}
 use Rattle.tally_tag.specs.Tallying.{Tallied, as_fault, tally_nodes, at_start}
 use Rattle.tally.proofs.Levels.{tally, root_tallied}
 use Rattle.tally.proofs.Rows.{held_segments}
@@ -27,7 +27,7 @@ record Described (t : List ℤ) (gs : List Segment) (r : Tallied) : Type 0 where
   ranged : Ranged gs
   records : r.tally.records ≡ records_from 0 gs
   total : r.tally.total ≡ held_total 0 0 gs
-  leaves : r.tally.leaves ≡ first_of Never 0 gs
+  leaves : r.tally.leaves ≡ first_of None 0 gs
   table : r.table ≡ sets t 0 (held_segments 0 gs)
 
 described : (r : Row) (in_int : Bool) (b : Before) (t : List ℤ) (v u : Nodes) → faults_in r in_int b u ≡ [] → Described t (describe v u).segments (tally_nodes at_start t u)
@@ -36,7 +36,7 @@ described r in_int b t v end h = record { ranged = tt; records = refl; total = r
 described r in_int b t v (other p c following) h = described r in_int b t v following (judged_other r in_int b p c following h)
 described r in_int b t v (element p n s kids following) h =
     let k = (judged h).inside in
-    let e = root_tallied nowhere 0 0 Never t p n s kids following _ _ _ _ _ (segments_tallied (row_of n) (in_int || is_int n) nothing_before kids k nowhere 0 0 Never t) in
+    let e = root_tallied nowhere 0 0 None t p n s kids following _ _ _ _ _ (segments_tallied (row_of n) (in_int || is_int n) nothing_before kids k nowhere 0 0 None t) in
     record {
       ranged = segments_ranged (row_of n) (in_int || is_int n) nothing_before kids k;
       records = ap (λ (r : Tallied). r.tally.records) e;
@@ -58,7 +58,7 @@ module _ (t : List ℤ) (u : Nodes) (h : element_faults u ≡ []) where
   -- The fold finds the first segment that leaves the addresses.
   pub leaves_tallied : as_fault (tally_nodes at_start t u).tally.leaves ≡ leaving 0 (describe u u).segments
   unfolding as_fault
-  leaves_tallied = ap as_fault found.leaves ∙ leaves_told Never 0 _ found.ranged
+  leaves_tallied = ap as_fault found.leaves ∙ leaves_told None 0 _ found.ranged
 
   module _ (k : leaving 0 (describe u u).segments ≡ none) where
     -- The fold counts the variables where no segment leaves the addresses, up to 1,000,001.

@@ -1,5 +1,6 @@
 -- What the tally of an element's content knows: entering a child, leaving it, and the record that is written then.
-use Rattle.std.specs.Prelude.{List, [], ◌∷◌, Bool, cond, ◌&&◌, ◌||◌, ℕ, ◌+◌, ◌*◌, min, ℤ, pos, ◌-ℤ◌, eqb}
+use Rattle.std.specs.Prelude as std
+use Rattle.std.specs.Prelude.{Some, None, List, [], ◌∷◌, Bool, cond, ◌&&◌, ◌||◌, ℕ, ◌+◌, ◌*◌, min, ℤ, pos, ◌-ℤ◌, eqb}
 use Rattle.std.proofs.Math.Option.{Option, none, some}
 use Rattle.std.proofs.lemmas.List.Edits.{sets}
 use Rattle.cdi.specs.Lists.{ascii, same, among, between}
@@ -12,14 +13,16 @@ use Rattle.cdi.specs.Plans.{offset_fits}
 use Rattle.cdi.specs.Planning.{number_or, offset_of, variable_kind, variable_size}
 use Rattle.extent.specs.Reach.{nowhere, by_offset, by_size, join, repeat, fits_at, held}
 use Rattle.extent.specs.declared.Extent.{Extent}
-use Rattle.tally_tag.specs.declared.Leaves.{Leaves}
-use Rattle.tally_tag.specs.declared.Leaves.TheVariants.{Never, At}
 use Rattle.tally_tag.specs.declared.Numbers.{Numbers}
 use Rattle.tally_tag.specs.declared.Tally.{Tally}
 
+-- the place of the first segment whose address leaves 0 to 2^32
+abbrev pub Leaves : Type 0
+Leaves = std.Option ℕ
+
 unfoldable pub as_fault : Leaves → Option Fault
-as_fault Never = none
-as_fault (At p) = some (fault 11 p)
+as_fault None = none
+as_fault (Some p) = some (fault 11 p)
 
 -- ── the numbers of a tag ──
 
@@ -70,8 +73,8 @@ unfoldable pub own_extent : List ℕ → Numbers → Extent → Extent
 own_extent n m inside = held (join (held (by_offset m.offset)) (cond (is_group n) (held (repeat m.replication inside)) (held (by_size m.size))))
 
 unfoldable pub first_leaving : Bool → ℕ → Leaves → Leaves
-first_leaving keeps p Never = cond keeps Never (At p)
-first_leaving keeps p (At q) = At q
+first_leaving keeps p None = cond keeps None (Some p)
+first_leaving keeps p (Some q) = Some q
 
 unfoldable pub leave_of : Tally → ℕ → List ℕ → List Attribute → Tally → Tally
 leave_of g p n s i =
@@ -127,4 +130,4 @@ tally_nodes g t (element p n s kids following) =
 
 -- before the text
 unfoldable pub at_start : Tally
-at_start = record { extent = nowhere; level = 0; records = 0; total = 0; leaves = Never }
+at_start = record { extent = nowhere; level = 0; records = 0; total = 0; leaves = None }

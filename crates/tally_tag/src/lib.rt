@@ -3,13 +3,6 @@
 
 use extent::Extent;
 
-// The first segment whose address leaves 0 to 2^32, by its place.
-#[derive(Clone, Copy)]
-pub enum Leaves {
-    Never,
-    At(usize),
-}
-
 // The numbers that a tag gives, each in its range, or what stands for one that is missing.
 #[derive(Clone, Copy)]
 pub struct Numbers {
@@ -21,13 +14,13 @@ pub struct Numbers {
 }
 
 // What is known at one level: the extent of its data elements so far, and of the whole text the records, the variables of the segments that
-// have ended, at most 1,000,001, and the first segment that leaves the addresses. Level 0 is the text, 1 the root, 2 a segment or a group; in
-// anything else, 3, nothing is described.
+// have ended, at most 1,000,001, and the place of the first segment whose address leaves 0 to 2^32. Level 0 is the text, 1 the root, 2 a segment or
+// a group; in anything else, 3, nothing is described.
 #[derive(Clone, Copy)]
 pub struct Tally {
     pub extent: Extent,
     pub level: u8,
     pub records: usize,
     pub total: u64,
-    pub leaves: Leaves,
+    pub leaves: Option<usize>,
 }

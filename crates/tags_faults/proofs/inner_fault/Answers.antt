@@ -4,18 +4,18 @@ use Rattle.tags_faults.specs.Told.{told_page}
 use Rattle.rules_judge.specs.Tables.{tables_page}
 use Rattle.tags_faults.proofs.inner_fault.Goals as goal
 
-pub returns-then-element-eq6 : goal.returns-then-element-eq6
+pub returns-in-6 : goal.returns-in-6
 unfolding told_page tables_page
-returns-then-element-eq6 c = search (by_rules, by_last, rules)
+returns-in-6 c = search (by_rules, by_last, rules)
 
-pub returns-then-element-eq7 : goal.returns-then-element-eq7
+pub returns-in-7 : goal.returns-in-7
 unfolding told_page tables_page
-returns-then-element-eq7 c = search (by_rules, by_last, rules)
+returns-in-7 c = search (by_rules, by_last, rules)
 
-pub returns-then-element-eq8 : goal.returns-then-element-eq8
+pub returns-in-8 : goal.returns-in-8
 unfolding told_page tables_page
-returns-then-element-eq8 c = search (by_rules, by_last, rules)
+returns-in-8 c = search (by_rules, by_last, rules)
 
-pub returns : goal.returns
+pub returns-in_default : goal.returns-in_default
 unfolding told_page tables_page
-returns c = search (by_rules, by_last, rules)
+returns-in_default c = search (by_rules, by_last, rules)
