@@ -48,16 +48,11 @@ module _ (b : ℕ) where
     unfolding hex_value
     hex_low e q = q ∙ rw (← p, e)
 
-    module _ {l : ℕ} (e : r ≡ false) (q : l ≡ lower b) where
-      pub hex_none : l < 87 → 0 ≡ hex_value b
-      unfolding hex_value
-      hex_none h = let z : 0 ≡ l - 87 = omega arith in z ∙ rw (← p, e, ← q)
+    pub hex_high : {l d : ℕ} → r ≡ false → l ≡ lower b → d ≡ l - 87 → d ≡ hex_value b
+    unfolding hex_value
+    hex_high e q k = k ∙ rw (← p, e, ← q)
 
-      pub hex_high : l - 87 ≡ hex_value b
-      unfolding hex_value
-      hex_high = rw (← p, e, ← q)
-
-pub ruleset digit_values = (hex_low, hex_none, hex_high, rules)
+pub ruleset digit_values = (hex_low, hex_high, rules)
 
 module _ {h : Bool} {r : ℕ} (c b d e : ℕ) where
   pub hex_more : h ≡ true → d ≡ hex_value b → e ≡ d → r ≡ clip (c * 16 + e) → r ≡ clip (further h c b)
@@ -69,14 +64,6 @@ module _ {h : Bool} {r : ℕ} (c b d e : ℕ) where
   decimal_more f p q u = u ∙ rw (q, p, f)
 
 pub ruleset digit_more = (hex_more, decimal_more, rules)
-
-pub clip_low : {c : ℕ} → c < 0x110000 → c ≡ clip c
-clip_low h = omega arith
-
-pub clip_high : {c : ℕ} → 0x110000 ≤ c → 0x110000 ≡ clip c
-clip_high h = omega arith
-
-pub ruleset clips = (clip_low, clip_high, rules)
 
 -- what is clipped on the way stays clipped
 clip_hex : (s : List ℕ) (n m : ℕ) → clip n ≡ clip m → clip (hexadecimal n s) ≡ clip (hexadecimal m s)

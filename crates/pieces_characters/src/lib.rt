@@ -21,23 +21,17 @@ const BEYOND: u32 = 0x110000;
 pub fn lower(b: u8) -> u8
     ensures { result ≡ lowered b }
 {
-    if b < 65 {
-        return b;
+    match b {
+        b'A'..=b'Z' => b + 32,
+        _ => b,
     }
-    if b <= 90 {
-        return b + 32;
-    }
-    b
 }
 
 // A digit's value; 0 below the digits.
 fn decimal_digit(b: u8) -> u8
     ensures { result ≡ b - 48 }
 {
-    if b < 48 {
-        return 0;
-    }
-    b - 48
+    b.saturating_sub(48)
 }
 
 // A hexadecimal digit's value in either case.
@@ -47,28 +41,14 @@ fn hexadecimal_digit(b: u8) -> u8
     if is_digit(b) {
         return decimal_digit(b);
     }
-    let small = lower(b);
-    if small < 87 {
-        return 0;
-    }
-    small - 87
-}
-
-// The byte as a number.
-fn wide(b: u8) -> u32
-    ensures { (result ≡ b) × (result ≤ 255) }
-{
-    b as u32
+    lower(b).saturating_sub(87)
 }
 
 // The number, or the first that is too large for a character where it is no smaller.
 fn clipped(code: u32) -> u32
     ensures { (result ≡ clip code) × (result ≤ 0x110000) }
 {
-    if code < BEYOND {
-        return code;
-    }
-    BEYOND
+    code.min(BEYOND)
 }
 
 // The number with one digit more.
@@ -77,9 +57,9 @@ fn with_digit(hex: bool, code: u32, b: u8) -> u32
     ensures { (result ≡ clip (further hex code b)) × (result ≤ 0x110000) }
 {
     if hex {
-        return clipped(code * 16 + wide(hexadecimal_digit(b)));
+        return clipped(code * 16 + u32::from(hexadecimal_digit(b)));
     }
-    clipped(code * 10 + wide(decimal_digit(b)))
+    clipped(code * 10 + u32::from(decimal_digit(b)))
 }
 
 // The number that the digits make, or 0x110000 where it is too large for a character.
@@ -87,10 +67,8 @@ pub fn number_of(hex: bool, digits: &[u8]) -> u32
     ensures { result ≡ clip (value_in hex 0 digits.now) }
 {
     let mut code: u32 = 0;
-    let mut i = 0;
-    while i < digits.len() {
-        code = with_digit(hex, code, digits[i]);
-        i += 1;
+    for b in digits {
+        code = with_digit(hex, code, *b);
     }
     code
 }
