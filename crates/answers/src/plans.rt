@@ -5,6 +5,7 @@ ghost use Rattle.std.specs.Prelude.{◌≤◌, IfSome};
 use answers_out::lines::{Line, hashed, refused, two};
 use answers_out::words;
 use frames_hash::hash;
+use frames_signed::signed;
 use plan::plan;
 use plan_stages::Planned;
 use refusals::Refusal;
@@ -12,7 +13,7 @@ use refusals::Refusal;
 // The table that is lent: number i holds -7 - i.
 fn fill(table: &mut [i64]) {
     for (i, number) in table.iter_mut().enumerate() {
-        *number = -7 - i as i64;
+        *number = signed(std::num::wrapping_sub_u64(0xFFFF_FFFF_FFFF_FFF9, i as u64));
     }
 }
 
