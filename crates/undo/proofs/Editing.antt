@@ -20,17 +20,13 @@ use Rattle.undo_edit.specs.Told.{outcome_of, state_of, window_left, journal_left
 use Rattle.undo.specs.Told.{edit_of}
 use Rattle.std.specs.Prelude.{Result, Ok, Err}
 use Rattle.refusals.specs.declared.Refusal.{Refusal}
-use Rattle.refusals.specs.Refusals.{fault_of}
+use Rattle.refusals.specs.Refusals.{refusal, fault_of}
 use Rattle.access_kinds.specs.declared.Setting.{Setting}
-use Rattle.access_lookup.specs.declared.Lookup.{Lookup}
-use Rattle.access_lookup.specs.declared.Lookup.TheVariants.{Is, Nothing}
-use Rattle.undo_edit.specs.declared.Outcome.{Outcome}
-use Rattle.undo_edit.specs.declared.Outcome.TheVariants as outcome
 
 -- ── a call that is refused ──
 
 module _ (s : State) {a : Answer State} {n p : ℕ} (e : a ≡ refused (fault n p)) where
-  told : outcome_of (outcome.Refused n p) ≡ answered a
+  told : outcome_of (Err (refusal n p)) ≡ answered a
   unfolding outcome_of answered
   told = sym (rw e)
 
@@ -68,7 +64,7 @@ module _ (b : List ℕ) (t : List ℤ) {a : Result ℕ Refusal} (e : checked_of 
     is_refused : edited b t (edit_of n v) s ≡ refused (fault_of r)
     is_refused = unedited b t n v s (not_known b t n (fault_of r) unknown)
 
-    pub check_told : outcome_of (outcome.Refused r.number r.place) ≡ answered (edited b t (edit_of n v) s)
+    pub check_told : outcome_of (Err r) ≡ answered (edited b t (edit_of n v) s)
     check_told = told s is_refused
 
     pub check_window : bytes ≡ window_left s (edited b t (edit_of n v) s)
@@ -77,7 +73,7 @@ module _ (b : List ℕ) (t : List ℤ) {a : Result ℕ Refusal} (e : checked_of 
     pub check_journal : j ≡ journal_left s (edited b t (edit_of n v) s)
     check_journal = journal_kept s is_refused
 
-  pub undo_told : outcome_of (outcome.Refused r.number r.place) ≡ answered (undone b t s)
+  pub undo_told : outcome_of (Err r) ≡ answered (undone b t s)
   undo_told = told s (not_undone b t s (fault_of r) unknown)
 
   pub undo_window : bytes ≡ window_left s (undone b t s)
@@ -87,17 +83,17 @@ pub ruleset checking_first = (checked_exact, check_told, check_window, check_jou
 
 -- ── the setting ──
 
-module _ (b : List ℕ) (t : List ℤ) (n : ℕ) (e : ℕ) {a : Lookup} (k : lookup_of (take e b) a ≡ setting_of b t n) where
+module _ (b : List ℕ) (t : List ℤ) (n : ℕ) (e : ℕ) {a : Result Setting Refusal} (k : lookup_of (take e b) a ≡ setting_of b t n) where
   -- there is none
-  module _ {m : ℕ} (q : a ≡ Nothing m) (v : Value) (session space first : ℕ) (bytes j : List ℕ) where
+  module _ {r : Refusal} (q : a ≡ Err r) (v : Value) (session space first : ℕ) (bytes j : List ℕ) where
     abbrev st : State
     st = state_of session space first bytes j
 
-    is_none : edited b t (edit_of n v) st ≡ refused (fault m 0)
+    is_none : edited b t (edit_of n v) st ≡ refused (fault_of r)
     unfolding lookup_of
     is_none = unedited b t n v st (sym k ∙ ap (lookup_of (take e b)) q)
 
-    pub none_told : outcome_of (outcome.Refused m 0) ≡ answered (edited b t (edit_of n v) st)
+    pub none_told : outcome_of (Err r) ≡ answered (edited b t (edit_of n v) st)
     none_told = told st is_none
 
     pub none_window : bytes ≡ window_left st (edited b t (edit_of n v) st)
@@ -107,7 +103,7 @@ module _ (b : List ℕ) (t : List ℤ) (n : ℕ) (e : ℕ) {a : Lookup} (k : loo
     none_journal = journal_kept st is_none
 
   -- there is one
-  module _ {x : Setting} (q : a ≡ Is x) where
+  module _ {x : Setting} (q : a ≡ Ok x) where
     pub setting_good : Fits (take e b) a → Good (take (e - 0) (drop 0 b)) x
     unfolding Fits
     setting_good f = rw (lent b e) (rw q at f)
@@ -121,7 +117,7 @@ module _ (b : List ℕ) (t : List ℤ) (n : ℕ) (e : ℕ) {a : Lookup} (k : loo
       unfolding edited_in edited written with_edit wrote window_after
       is_edited = rw (lent b e) (sym (rw (is_setting, window_after)))
 
-      pub setting_told : (r : Outcome) → outcome_of r ≡ answered (edited_in (setting_is (take (e - 0) (drop 0 b)) x) n v s) → outcome_of r ≡ answered (edited b t (edit_of n v) s)
+      pub setting_told : (r : Result ℕ Refusal) → outcome_of r ≡ answered (edited_in (setting_is (take (e - 0) (drop 0 b)) x) n v s) → outcome_of r ≡ answered (edited b t (edit_of n v) s)
       setting_told r z = z ∙ ap answered is_edited
 
       pub setting_window : {u : List ℕ} → u ≡ window_left s (edited_in (setting_is (take (e - 0) (drop 0 b)) x) n v s) → u ≡ window_left s (edited b t (edit_of n v) s)

@@ -12,8 +12,9 @@ use Rattle.undo_entries.specs.declared.Begun.TheVariants as begun
 use Rattle.undo_entries.specs.declared.Last.{Last}
 use Rattle.undo_entries.specs.declared.Last.TheVariants as last
 use Rattle.undo_edit.specs.Told.{outcome_of, window_left, journal_left}
-use Rattle.undo_edit.specs.declared.Outcome.{Outcome}
-use Rattle.undo_edit.specs.declared.Outcome.TheVariants.{Stands, Refused}
+use Rattle.refusals.specs.declared.Refusal.{Refusal}
+use Rattle.refusals.specs.Refusals.{refusal}
+use Rattle.std.specs.Prelude.{Result, Ok, Err}
 
 module _ {A : Type 0} where
   once : {x r q : A} → r ≡ x → q ≡ x → r ≡ q
@@ -53,15 +54,15 @@ last_once a r q e f = last_alike r q (once e f)
 
 -- ── edits and undos ──
 
-outcome_alike : (r q : Outcome) → outcome_of r ≡ outcome_of q → r ≡ q
+outcome_alike : (r q : Result ℕ Refusal) → outcome_of r ≡ outcome_of q → r ≡ q
 unfolding outcome_of
-outcome_alike (Stands s) (Stands t) z = ap Stands (same_accepted z)
-outcome_alike (Stands s) (Refused n p) z = impossible (cc)
-outcome_alike (Refused n p) (Stands t) z = impossible (cc)
-outcome_alike (Refused n p) (Refused m o) z = ap (λ (f : Fault). Refused f.number f.place) (same_refused z)
+outcome_alike (Ok s) (Ok t) z = ap Ok (same_accepted z)
+outcome_alike (Ok s) (Err f) z = impossible (cc)
+outcome_alike (Err f) (Ok t) z = impossible (cc)
+outcome_alike (Err f) (Err g) z = ap (λ (x : Fault). Err (refusal x.number x.place)) (same_refused z)
 
 -- of undo_edit::edit_setting, undo_take::undo_known, undo::edit_known, undo::edit_integer, undo::edit_event, undo::edit_text, undo::undo
-pub outcome_once : (a : Answer ℕ) (r q : Outcome) → outcome_of r ≡ a → outcome_of q ≡ a → r ≡ q
+pub outcome_once : (a : Answer ℕ) (r q : Result ℕ Refusal) → outcome_of r ≡ a → outcome_of q ≡ a → r ≡ q
 outcome_once a r q e f = outcome_alike r q (once e f)
 
 module _ (s : State) (a : Answer State) (u o : List ℕ) where

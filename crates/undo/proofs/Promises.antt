@@ -12,13 +12,13 @@ use Rattle.undo_model.specs.Sessions.{State, opened, holding, wrote, with_edit, 
 use Rattle.undo_laws.proofs.Edits.{accepted_edit, accepted_undo}
 use Rattle.undo_laws.proofs.Promises.{window_is, at_most_64, session_is, edit_undo}
 use Rattle.undo_edit.specs.Told.{outcome_of, state_of, window_left, journal_left}
-use Rattle.undo_edit.specs.declared.Outcome.{Outcome}
-use Rattle.undo_edit.specs.declared.Outcome.TheVariants.{Stands, Refused}
+use Rattle.refusals.specs.declared.Refusal.{Refusal}
+use Rattle.std.specs.Prelude.{Result, Ok, Err}
 
 -- the session value after a call: a refused one leaves it
-unfoldable pub session_after : ℕ → Outcome → ℕ
-session_after before (Stands s) = s
-session_after before (Refused n p) = before
+unfoldable pub session_after : ℕ → Result ℕ Refusal → ℕ
+session_after before (Ok s) = s
+session_after before (Err g) = before
 
 state_is : (a : State) {n space first : ℕ} {u k : List ℕ} → n ≡ a.session → space ≡ a.window.space → first ≡ a.window.first → u ≡ a.window.bytes → k ≡ a.journal
     → state_of n space first u k ≡ a
@@ -26,7 +26,7 @@ state_is a p q r x y = rw (p, q, r, x, y)
 
 module _ (b : List ℕ) (t : List ℤ) (space first : ℕ) where
   -- a call that met its contract: it answered r, and left these bytes as window and journal
-  pub record Met (session : ℕ) (bytes j : List ℕ) (c : Call) (r : Outcome) (u k : List ℕ) : Type 0 where
+  pub record Met (session : ℕ) (bytes j : List ℕ) (c : Call) (r : Result ℕ Refusal) (u k : List ℕ) : Type 0 where
     pub answer : outcome_of r ≡ answered (called b t (state_of session space first bytes j) c)
     pub window : u ≡ window_left (state_of session space first bytes j) (called b t (state_of session space first bytes j) c)
     pub journal : k ≡ journal_left (state_of session space first bytes j) (called b t (state_of session space first bytes j) c)
@@ -37,7 +37,7 @@ module _ (b : List ℕ) (t : List ℤ) (space first : ℕ) where
   same_window s a (edit e) q = let h = sym (ap (λ (x : State). x.window) (accepted_edit b t e s a q).leaves) in (ap (λ (x : Window). x.space) h, ap (λ (x : Window). x.first) h)
   same_window s a undo q = let h = sym (ap (λ (x : State). x.window) (accepted_undo b t s a q).leaves) in (ap (λ (x : Window). x.space) h, ap (λ (x : Window). x.first) h)
 
-  module _ {session : ℕ} {bytes j : List ℕ} {c : Call} {r : Outcome} {u k : List ℕ} (m : Met session bytes j c r u k) where
+  module _ {session : ℕ} {bytes j : List ℕ} {c : Call} {r : Result ℕ Refusal} {u k : List ℕ} (m : Met session bytes j c r u k) where
     abbrev s : State
     s = state_of session space first bytes j
 
@@ -46,18 +46,18 @@ module _ (b : List ℕ) (t : List ℤ) (space first : ℕ) where
     unfolding session_after outcome_of answered after
     met = by (called b t s c) refl r m.answer m.window m.journal
       where
-        by : (a : Answer State) → called b t s c ≡ a → (q : Outcome) → outcome_of q ≡ answered a → u ≡ window_left s a → k ≡ journal_left s a
+        by : (a : Answer State) → called b t s c ≡ a → (q : Result ℕ Refusal) → outcome_of q ≡ answered a → u ≡ window_left s a → k ≡ journal_left s a
             → state_of (session_after session q) space first u k ≡ after s a
-        by (accepted a) e (Stands n) x y z = let w = same_window s a c e in state_is a (same_accepted x) (sym w.0) (sym w.1) y z
-        by (accepted a) e (Refused n p) x y z = impossible (cc)
-        by (refused f) e (Stands n) x y z = impossible (cc)
-        by (refused f) e (Refused n p) x y z = cc
+        by (accepted a) e (Ok n) x y z = let w = same_window s a c e in state_is a (same_accepted x) (sym w.0) (sym w.1) y z
+        by (accepted a) e (Err g) x y z = impossible (cc)
+        by (refused f) e (Ok n) x y z = impossible (cc)
+        by (refused f) e (Err g) x y z = cc
 
   -- "each call gets the same text, table, window and journal and the last call's session, and nothing else writes to these": from this session value and
   -- these bytes of window and journal the calls come to those
   unfoldable pub Ran : ℕ → List ℕ → List ℕ → List Call → ℕ → List ℕ → List ℕ → Type 0
   Ran session bytes j [] n v l = (n ≡ session) × (v ≡ bytes) × (l ≡ j)
-  Ran session bytes j (c ∷ cs) n v l = (r : Outcome) × (u : List ℕ) × (k : List ℕ) × Met session bytes j c r u k × Ran (session_after session r) u k cs n v l
+  Ran session bytes j (c ∷ cs) n v l = (r : Result ℕ Refusal) × (u : List ℕ) × (k : List ℕ) × Met session bytes j c r u k × Ran (session_after session r) u k cs n v l
 
   ran : (session : ℕ) (bytes j : List ℕ) (cs : List Call) (n : ℕ) (v l : List ℕ) → Ran session bytes j cs n v l
       → state_of n space first v l ≡ after_all b t (state_of session space first bytes j) cs
@@ -89,15 +89,15 @@ module _ (b : List ℕ) (t : List ℤ) (space first : ℕ) where
 
   -- ── an edit and its undo ──
 
-  accepted_answer : (a : Answer State) (n : ℕ) {P : Type 0} → outcome_of (Stands n) ≡ answered a → ((x : State) → a ≡ accepted x → P) → P
+  accepted_answer : (a : Answer State) (n : ℕ) {P : Type 0} → outcome_of (Ok n) ≡ answered a → ((x : State) → a ≡ accepted x → P) → P
   unfolding outcome_of answered
   accepted_answer (accepted x) n e k = k x refl
   accepted_answer (refused f) n e k = impossible (cc)
 
-  taken_outcome : (a : Answer State) (x : State) (r : Outcome) → a ≡ accepted x → outcome_of r ≡ answered a → r ≡ Stands x.session
+  taken_outcome : (a : Answer State) (x : State) (r : Result ℕ Refusal) → a ≡ accepted x → outcome_of r ≡ answered a → r ≡ Ok x.session
   unfolding outcome_of answered
-  taken_outcome a x (Stands n) e z = ap Stands (same_accepted (z ∙ rw e))
-  taken_outcome a x (Refused n p) e z = let y = rw e at z in impossible (cc)
+  taken_outcome a x (Ok n) e z = ap Ok (same_accepted (z ∙ rw e))
+  taken_outcome a x (Err g) e z = let y = rw e at z in impossible (cc)
 
   -- what an accepted call leaves
   left_by_law : (s : State) {a : Answer State} {x : State} → a ≡ accepted x → after s a ≡ x
@@ -105,8 +105,8 @@ module _ (b : List ℕ) (t : List ℤ) (space first : ℕ) where
   left_by_law s e = rw e
 
   -- undo straight after an accepted edit gives back window and session value; the journal's bytes behind the standing entries may be others
-  pub undo_gives_back : (session : ℕ) (bytes j : List ℕ) (e : Edit) (n : ℕ) (u k : List ℕ) → Met session bytes j (edit e) (Stands n) u k
-      → (r : Outcome) (v l : List ℕ) → Met n u k undo r v l → (r ≡ Stands session) × (v ≡ bytes) × (l ≡ k)
+  pub undo_gives_back : (session : ℕ) (bytes j : List ℕ) (e : Edit) (n : ℕ) (u k : List ℕ) → Met session bytes j (edit e) (Ok n) u k
+      → (r : Result ℕ Refusal) (v l : List ℕ) → Met n u k undo r v l → (r ≡ Ok session) × (v ≡ bytes) × (l ≡ k)
   unfolding called session_after
   undo_gives_back session bytes j e n u k m r v l o =
       let s = state_of session space first bytes j in

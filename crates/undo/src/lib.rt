@@ -13,9 +13,10 @@ ghost use Rattle.undo_edit.specs.Told.{outcome_of, state_of, window_left, journa
 ghost use Rattle.undo.specs.Told.{edit_of};
 
 use access_checked::check;
-use access_lookup::{Lookup, seek};
+use access_lookup::seek;
 use maps::Wanted;
-use undo_edit::{Outcome, edit_setting};
+use refusals::Refusal;
+use undo_edit::edit_setting;
 use undo_take::undo_known;
 
 // ── of a text and a table that have been checked ──
@@ -33,16 +34,15 @@ pub fn edit_known(
     session: u64,
     value: Wanted,
     string: &[u8],
-) -> Outcome
+) -> Result<u64, Refusal>
     requires { known_of text.now table.now ≡ accepted end }
     ensures answer { outcome_of result ≡ answered (edited text.now table.now (edit_of n (wanted_of value string.now)) (state_of session space first window.old journal.old)) }
     ensures bytes { window.new ≡ window_left (state_of session space first window.old journal.old) (edited text.now table.now (edit_of n (wanted_of value string.now)) (state_of session space first window.old journal.old)) }
     ensures kept { journal.new ≡ journal_left (state_of session space first window.old journal.old) (edited text.now table.now (edit_of n (wanted_of value string.now)) (state_of session space first window.old journal.old)) }
 {
-    let lookup = seek(text, end, table, n);
-    match lookup {
-        Lookup::Nothing(number) => Outcome::Refused { number, place: 0 },
-        Lookup::Is(setting) => edit_setting(
+    match seek(text, end, table, n) {
+        Err(refusal) => Err(refusal),
+        Ok(setting) => edit_setting(
             &text[0..end],
             setting,
             n,
@@ -71,21 +71,15 @@ fn edit(
     session: u64,
     value: Wanted,
     string: &[u8],
-) -> Outcome
+) -> Result<u64, Refusal>
     ensures answer { outcome_of result ≡ answered (edited text.now table.now (edit_of n (wanted_of value string.now)) (state_of session space first window.old journal.old)) }
     ensures bytes { window.new ≡ window_left (state_of session space first window.old journal.old) (edited text.now table.now (edit_of n (wanted_of value string.now)) (state_of session space first window.old journal.old)) }
     ensures kept { journal.new ≡ journal_left (state_of session space first window.old journal.old) (edited text.now table.now (edit_of n (wanted_of value string.now)) (state_of session space first window.old journal.old)) }
 {
-    let checked = check(text, table);
-    match checked {
-        Err(refusal) => Outcome::Refused {
-            number: refusal.number,
-            place: refusal.place,
-        },
-        Ok(end) => edit_known(
-            text, end, table, n, space, first, window, journal, session, value, string,
-        ),
-    }
+    let end = check(text, table)?;
+    edit_known(
+        text, end, table, n, space, first, window, journal, session, value, string,
+    )
 }
 
 // Edits with an integer, a sign and a magnitude. The window has these bytes of a space, from `first` on.
@@ -100,7 +94,7 @@ pub fn edit_integer(
     session: u64,
     negative: bool,
     magnitude: u64,
-) -> Outcome
+) -> Result<u64, Refusal>
     ensures answer { outcome_of result ≡ answered (edited text.now table.now (edit_of n (wanted_of (Number negative magnitude) no_text)) (state_of session space first window.old journal.old)) }
     ensures bytes { window.new ≡ window_left (state_of session space first window.old journal.old) (edited text.now table.now (edit_of n (wanted_of (Number negative magnitude) no_text)) (state_of session space first window.old journal.old)) }
     ensures kept { journal.new ≡ journal_left (state_of session space first window.old journal.old) (edited text.now table.now (edit_of n (wanted_of (Number negative magnitude) no_text)) (state_of session space first window.old journal.old)) }
@@ -125,7 +119,7 @@ pub fn edit_event(
     journal: &mut [u8],
     session: u64,
     id: u64,
-) -> Outcome
+) -> Result<u64, Refusal>
     ensures answer { outcome_of result ≡ answered (edited text.now table.now (edit_of n (wanted_of (Event id) no_text)) (state_of session space first window.old journal.old)) }
     ensures bytes { window.new ≡ window_left (state_of session space first window.old journal.old) (edited text.now table.now (edit_of n (wanted_of (Event id) no_text)) (state_of session space first window.old journal.old)) }
     ensures kept { journal.new ≡ journal_left (state_of session space first window.old journal.old) (edited text.now table.now (edit_of n (wanted_of (Event id) no_text)) (state_of session space first window.old journal.old)) }
@@ -155,7 +149,7 @@ pub fn edit_text(
     journal: &mut [u8],
     session: u64,
     string: &[u8],
-) -> Outcome
+) -> Result<u64, Refusal>
     ensures answer { outcome_of result ≡ answered (edited text.now table.now (edit_of n (wanted_of Text string.now)) (state_of session space first window.old journal.old)) }
     ensures bytes { window.new ≡ window_left (state_of session space first window.old journal.old) (edited text.now table.now (edit_of n (wanted_of Text string.now)) (state_of session space first window.old journal.old)) }
     ensures kept { journal.new ≡ journal_left (state_of session space first window.old journal.old) (edited text.now table.now (edit_of n (wanted_of Text string.now)) (state_of session space first window.old journal.old)) }
@@ -183,16 +177,10 @@ pub fn undo(
     window: &mut [u8],
     journal: &[u8],
     session: u64,
-) -> Outcome
+) -> Result<u64, Refusal>
     ensures answer { outcome_of result ≡ answered (undone text.now table.now (state_of session space first window.old journal.now)) }
     ensures bytes { window.new ≡ window_left (state_of session space first window.old journal.now) (undone text.now table.now (state_of session space first window.old journal.now)) }
 {
-    let checked = check(text, table);
-    match checked {
-        Err(refusal) => Outcome::Refused {
-            number: refusal.number,
-            place: refusal.place,
-        },
-        Ok(end) => undo_known(text, end, table, space, first, window, journal, session),
-    }
+    let end = check(text, table)?;
+    undo_known(text, end, table, space, first, window, journal, session)
 }

@@ -22,7 +22,8 @@ use Rattle.undo_model.specs.Journal.{room, four_at, beginning, lie, entry_at}
 use Rattle.undo_model.specs.Sessions.{State, holding, latest, without_edit, can_undo, taken_back, answered, after}
 use Rattle.undo_laws.proofs.Entries.{last_lies}
 use Rattle.undo_edit.specs.Told.{outcome_of, state_of, window_left}
-use Rattle.undo_edit.specs.declared.Outcome.TheVariants.{Stands, Refused}
+use Rattle.refusals.specs.Refusals.{refusal}
+use Rattle.std.specs.Prelude.{Ok, Err}
 use Rattle.undo_take.specs.Held.{Held}
 
 module _ (s : Setting) (session space first : ℕ) (bytes j : List ℕ) (size from : ℕ) (p : 1 ≤ session) (held : Held j session size from) where
@@ -38,7 +39,7 @@ module _ (s : Setting) (session space first : ℕ) (bytes j : List ℕ) (size fr
     unfolding taken_back can_undo latest entry_at setting_is
     other_answer = rw (held.lies, held.sized, ne_eqb s.size size h)
 
-    pub other_told : outcome_of (Refused 35 0) ≡ answered a
+    pub other_told : outcome_of (Err (refusal 35 0)) ≡ answered a
     unfolding outcome_of answered
     other_told = sym (rw other_answer)
 
@@ -56,7 +57,7 @@ module _ (s : Setting) (session space first : ℕ) (bytes j : List ℕ) (size fr
           let z : eqb (setting_is no_text s).variable.size size ≡ true = eq-eqb s.size size h in
           rw (held.lies, held.sized, z, q)
 
-      pub outside_told : outcome_of (Refused 35 0) ≡ answered a
+      pub outside_told : outcome_of (Err (refusal 35 0)) ≡ answered a
       unfolding outcome_of answered
       outside_told = sym (rw outside_answer)
 
@@ -103,7 +104,7 @@ module _ (s : Setting) (session space first : ℕ) (bytes j : List ℕ) (size fr
           let z : eqb s.size size ≡ true = eq-eqb s.size size h in
           rw (held.lies, held.sized, z, inside)
 
-      pub taken_told : outcome_of (Stands (session - 1)) ≡ answered a
+      pub taken_told : outcome_of (Ok (session - 1)) ≡ answered a
       unfolding outcome_of answered without_edit
       taken_told = sym (rw taken_answer)
 

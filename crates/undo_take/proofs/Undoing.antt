@@ -19,15 +19,14 @@ use Rattle.access_lookup.specs.Told.{end_in, known_of, lookup_of}
 use Rattle.undo_model.specs.Journal.{room, lie, entry_at}
 use Rattle.undo_model.specs.Sessions.{State, latest, can_undo, taken_back, undone_in, undone, answered, after}
 use Rattle.undo_edit.specs.Told.{outcome_of, state_of, window_left}
-use Rattle.undo_edit.specs.declared.Outcome.{Outcome}
-use Rattle.undo_edit.specs.declared.Outcome.TheVariants as outcome
+use Rattle.refusals.specs.declared.Refusal.{Refusal}
+use Rattle.refusals.specs.Refusals.{refusal}
+use Rattle.std.specs.Prelude.{Result, Ok, Err}
 use Rattle.undo_entries.specs.Begun.{Head, last_of, head_in, last_in}
 use Rattle.undo_entries.specs.declared.Last.{Last}
 use Rattle.undo_entries.specs.declared.Last.TheVariants as last
 use Rattle.access_kinds.specs.Told.{no_text, setting_is}
 use Rattle.access_kinds.specs.declared.Setting.{Setting}
-use Rattle.access_lookup.specs.declared.Lookup.{Lookup}
-use Rattle.access_lookup.specs.declared.Lookup.TheVariants as lookup
 use Rattle.undo_take.specs.Held.{Held}
 
 module _ (b : List ℕ) (t : List ℤ) {end : ℕ} (known : known_of b t ≡ accepted end) (session space first : ℕ) (bytes j : List ℕ) where
@@ -70,7 +69,7 @@ module _ (b : List ℕ) (t : List ℤ) {end : ℕ} (known : known_of b t ≡ acc
   abbrev a : Answer State
   a = undone b t st
 
-  pub zero_told : session ≡ 0 → outcome_of (outcome.Refused 31 0) ≡ answered a
+  pub zero_told : session ≡ 0 → outcome_of (Err (refusal 31 0)) ≡ answered a
   unfolding outcome_of answered
   zero_told z = sym (rw (none_stand z))
 
@@ -87,7 +86,7 @@ module _ (b : List ℕ) (t : List ℤ) {end : ℕ} (known : known_of b t ≡ acc
         by true o q = impossible (cc)
         by false o q = refl
 
-    pub missing_told : l ≡ last.Nothing → outcome_of (outcome.Refused 35 0) ≡ answered a
+    pub missing_told : l ≡ last.Nothing → outcome_of (Err (refusal 35 0)) ≡ answered a
     unfolding outcome_of answered
     missing_told e = sym (rw (entry_missing h (missing e)))
 
@@ -112,13 +111,13 @@ module _ (b : List ℕ) (t : List ℤ) {end : ℕ} (known : known_of b t ≡ acc
       unfolding latest entry_at head_in
       number_is = ap (λ (x : Head). x.number) heads.1
 
-      module _ (c : List ℕ) {x : Lookup} (k : lookup_of c x ≡ setting_of b t n) where
-        module _ {m : ℕ} (q : x ≡ lookup.Nothing m) where
+      module _ (c : List ℕ) {x : Result Setting Refusal} (k : lookup_of c x ≡ setting_of b t n) where
+        module _ {r : Refusal} (q : x ≡ Err r) where
           nothing : a ≡ refused (fault 35 0)
           unfolding lookup_of
           nothing = no_variable h (ap (setting_of b t) number_is ∙ sym k ∙ ap (lookup_of c) q)
 
-          pub nothing_told : outcome_of (outcome.Refused 35 0) ≡ answered a
+          pub nothing_told : outcome_of (Err (refusal 35 0)) ≡ answered a
           unfolding outcome_of answered
           nothing_told = sym (rw nothing)
 
@@ -126,12 +125,12 @@ module _ (b : List ℕ) (t : List ℤ) {end : ℕ} (known : known_of b t ≡ acc
           unfolding after
           nothing_window = sym (rw nothing)
 
-        module _ {s : Setting} (q : x ≡ lookup.Is s) where
+        module _ {s : Setting} (q : x ≡ Ok s) where
           taken : a ≡ taken_back st (accepted (setting_is no_text s).variable)
           unfolding lookup_of setting_is
           taken = of_variable h (ap (setting_of b t) number_is ∙ sym k ∙ ap (lookup_of c) q)
 
-          pub taken_told : (r : Outcome) → outcome_of r ≡ answered (taken_back st (accepted (setting_is no_text s).variable)) → outcome_of r ≡ answered a
+          pub taken_told : (r : Result ℕ Refusal) → outcome_of r ≡ answered (taken_back st (accepted (setting_is no_text s).variable)) → outcome_of r ≡ answered a
           taken_told r o = o ∙ ap answered (sym taken)
 
           pub taken_window : {u : List ℕ} → u ≡ window_left st (taken_back st (accepted (setting_is no_text s).variable)) → u ≡ window_left st a

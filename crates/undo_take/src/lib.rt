@@ -10,8 +10,8 @@ ghost use Rattle.undo_edit.specs.Told.{outcome_of, state_of, window_left};
 ghost use Rattle.undo_take.specs.Held.{Held};
 
 use access_kinds::{Setting, is_inside};
-use access_lookup::{Lookup, seek};
-use undo_edit::Outcome;
+use access_lookup::seek;
+use refusals::Refusal;
 use undo_entries::{Last, last_of};
 use values::put_text;
 
@@ -25,29 +25,29 @@ fn put_back(
     session: u64,
     size: usize,
     from: usize,
-) -> Outcome
+) -> Result<u64, Refusal>
     requires { (1 ≤ session) × Held journal.now session size from }
     ensures answer { outcome_of result ≡ answered (taken_back (state_of session space first window.old journal.now) (accepted (setting_is no_text setting).variable)) }
     ensures bytes { window.new ≡ window_left (state_of session space first window.old journal.now) (taken_back (state_of session space first window.old journal.now) (accepted (setting_is no_text setting).variable)) }
 {
     if setting.size != size {
-        return Outcome::Refused {
+        return Err(Refusal {
             number: 35,
             place: 0,
-        };
+        });
     }
     let length = window.len();
     if !is_inside(setting, space, first, length) {
-        return Outcome::Refused {
+        return Err(Refusal {
             number: 35,
             place: 0,
-        };
+        });
     }
     let start = (setting.address - first) as usize;
     let end = start + size;
     let to = from + size;
     put_text(&mut window[start..end], &journal[from..to]);
-    Outcome::Stands(session - 1)
+    Ok(session - 1)
 }
 
 // Takes the latest edit back, of a text and a table that have been checked.
@@ -60,31 +60,29 @@ pub fn undo_known(
     window: &mut [u8],
     journal: &[u8],
     session: u64,
-) -> Outcome
+) -> Result<u64, Refusal>
     requires { known_of text.now table.now ≡ accepted end }
     ensures answer { outcome_of result ≡ answered (undone text.now table.now (state_of session space first window.old journal.now)) }
     ensures bytes { window.new ≡ window_left (state_of session space first window.old journal.now) (undone text.now table.now (state_of session space first window.old journal.now)) }
 {
     if session == 0 {
-        return Outcome::Refused {
+        return Err(Refusal {
             number: 31,
             place: 0,
-        };
+        });
     }
-    let last = last_of(journal, session);
-    match last {
-        Last::Nothing => Outcome::Refused {
+    match last_of(journal, session) {
+        Last::Nothing => Err(Refusal {
             number: 35,
             place: 0,
-        },
+        }),
         Last::At { number, size, from } => {
-            let lookup = seek(text, end, table, number);
-            match lookup {
-                Lookup::Nothing(_) => Outcome::Refused {
-                    number: 35,
-                    place: 0,
-                },
-                Lookup::Is(setting) => put_back(
+            match seek(text, end, table, number) {
+                Err(_) => Err(Refusal {
+            number: 35,
+            place: 0,
+        }),
+                Ok(setting) => put_back(
                     setting, space, first, window, journal, session, size, from,
                 ),
             }

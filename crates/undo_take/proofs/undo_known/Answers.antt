@@ -16,14 +16,14 @@ returns-in-Nothing-clause-answer c = search undoing
 pub returns-in-Nothing-clause-bytes : goal.returns-in-Nothing-clause-bytes
 returns-in-Nothing-clause-bytes c = search undoing
 
-pub returns-in-Nothing-lookup-clause-answer : goal.returns-in-Nothing-lookup-clause-answer
-returns-in-Nothing-lookup-clause-answer c = search undoing
+pub returns-in-Err-clause-answer : goal.returns-in-Err-clause-answer
+returns-in-Err-clause-answer c = search undoing
 
-pub returns-in-Nothing-lookup-clause-bytes : goal.returns-in-Nothing-lookup-clause-bytes
-returns-in-Nothing-lookup-clause-bytes c = search undoing
+pub returns-in-Err-clause-bytes : goal.returns-in-Err-clause-bytes
+returns-in-Err-clause-bytes c = search undoing
 
-pub returns-in-Is-clause-answer : goal.returns-in-Is-clause-answer
-returns-in-Is-clause-answer c = search undoing
+pub returns-in-Ok-clause-answer : goal.returns-in-Ok-clause-answer
+returns-in-Ok-clause-answer c = search undoing
 
-pub returns-in-Is-clause-bytes : goal.returns-in-Is-clause-bytes
-returns-in-Is-clause-bytes c = search undoing
+pub returns-in-Ok-clause-bytes : goal.returns-in-Ok-clause-bytes
+returns-in-Ok-clause-bytes c = search undoing
