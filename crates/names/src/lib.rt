@@ -1,10 +1,11 @@
 // Names: the number of an element's name and of an attribute's name, each compared with fixed byte strings. Numbers are counted from 1, and 0
-// is the answer for any other name.
+// is the answer for any other name. (No Option, since the definitions `element_number` and `attribute_number`, which contracts name, count so.)
 #![tactic(auto)]
 
 ghost use Rattle.std.specs.Prelude.{◌≡◌};
 ghost use Rattle.names.specs.Names.{element_names, attribute_names, number_in, element_number, attribute_number};
 
+// `match name` with these words as arms was tried for this list: it leaves a goal for each byte of each word, and the proof did not close.
 // The number of an element that stands around variables, or 0.
 fn outer_number(name: &[u8]) -> u8
     ensures { result ≡ number_in element_names 0 5 name.now }

@@ -7,7 +7,8 @@ ghost use Rattle.cdi.specs.Lists.{any, same as same_bytes, begins, between};
 ghost use Rattle.cdi.specs.Pieces.{blank, digit, name_start, name_byte, is_text, hex_digit, value_byte};
 ghost use Rattle.scan.specs.Spans.{of_class, Span};
 
-// The classes of bytes that pieces are made of; a value's bytes are told by its quote.
+// The classes of bytes that pieces are made of; a value's bytes are told by its quote. (An enum, since the definition `of_class`, which contracts
+// name, goes by its cases.)
 #[derive(Clone, Copy)]
 pub enum Class {
     Blank,

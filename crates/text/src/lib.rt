@@ -15,7 +15,7 @@ use text_runs::{nonzero_run, plain_run, starts_run};
 // The zero that ends the content stands before this place.
 const LIMIT: usize = TEXT_LIMIT;
 
-// The characters of content, or all of UTF-8.
+// The characters of content, or all of UTF-8. (An enum, since the definition `of_set`, which contracts name, goes by its cases.)
 #[derive(Clone, Copy)]
 pub enum Set {
     Allowed,
@@ -42,6 +42,7 @@ fn zero_behind(part: &[u8], at: usize) -> Result<usize, usize>
     ensures { end_answer result ≡ end_in part.now }
 {
     let mut i = at;
+    // no `for`: a run of bytes is passed at a step
     while i < part.len() {
         if part[i] == 0 {
             return Ok(i);
@@ -104,6 +105,7 @@ fn first_bad(s: &[u8], set: Set, at: usize) -> Option<usize>
     ensures { place_of result ≡ bad_from (of_set set) 0 0 s.now }
 {
     let mut i = at;
+    // no `for`: a run or a character of several bytes is passed at a step
     while i < s.len() {
         if starts_run(s[i]) {
             i = plain_run(s, i + 1);

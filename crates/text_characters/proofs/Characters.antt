@@ -24,9 +24,6 @@ and-false x y e = rw e
 
 pub ruleset ands = (and_true, and-false)
 
-pub both_tests : (a : Bool) {t u : Bool} → t ≡ u → (a && t) ≡ (a && u)
-both_tests a e = rw e
-
 -- ── a sequence of several bytes ──
 
 module _ {t : Bool} (p : Bool) (f : t ≡ p) where

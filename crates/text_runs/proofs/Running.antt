@@ -5,6 +5,7 @@ use mathlib.Core.Bool.{Bool, true, false, cond, ◌&&◌, ◌||◌}
 use Prim.Native.Nat.{ℕ, zero, suc, ◌+◌, ◌-◌, ◌≤◌, ◌<◌}
 use native.Mathlib.Nat.{add-zero}
 use native.Mathlib.Omega.{arith}
+use borrow.Author.Rules.{rules}
 use borrow.Author.Tests.{ne_eqb, le-leb, lt-leb, le-ltb, ltb-true, ltb-false}
 use lib.Dec.{eqb, leb, ltb}
 use lib.ListN.{length, get_or}
@@ -65,6 +66,10 @@ module _ {p : ℕ → Bool} {s : List ℕ} {at : ℕ} where
   pub one_tested : (k : ℕ) (good : Bool) {t : Bool} → (good ≡ true → AllOf p s at (at + k)) → t ≡ p (get_or s (at + k) 0) → (good && t) ≡ true → AllOf p s at (at + (k + 1))
   one_tested k true v e f = one_more at k (v refl) e f
   one_tested k false v e f = impossible (cc)
+
+pub ruleset step_loop = (none_tested, one_tested, all_eight)
+
+pub ruleset run_loop = (nothing_yet, behind, none_more, one_more, all_eight, rules)
 
 -- ── tests without branches ──
 

@@ -1,6 +1,5 @@
 use Rattle.text.proofs.Checks.{character_loop, out, run_on}
 use native.Mathlib.Omega.{arith}
-use Prim.Native.Nat.{◌-◌}
 use Rattle.text.proofs.first_bad.Goals as goal
 
 pub loop-i-init : goal.loop-i-init

@@ -1,4 +1,4 @@
-use Rattle.std.proofs.Common.{sym, ◌∙◌, Bool, true, false, ◌≡◌}
+use Rattle.std.proofs.Common.{sym, ◌∙◌}
 use Rattle.text.proofs.Checks.{impossible_bool, none_there, in_both, in_one, in_none}
 use Rattle.text.proofs.width_at.Goals as goal
 use Rattle.text.proofs.width_at.Goals.{then-is_between, else-is_between}

@@ -1,5 +1,4 @@
 use Rattle.text.proofs.Ends.{zero_loop}
-use Prim.Native.Nat.{◌-◌}
 use Rattle.text.proofs.zero_behind.Goals as goal
 
 pub loop-i-init : goal.loop-i-init

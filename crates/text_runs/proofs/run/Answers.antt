@@ -1,5 +1,5 @@
 use Rattle.std.proofs.Common.{rules, arith}
-use Rattle.text_runs.proofs.Running.{nothing_yet, behind, none_more, one_more, all_eight}
+use Rattle.text_runs.proofs.Running.{nothing_yet, behind, one_more, all_eight, run_loop}
 use Rattle.text_runs.proofs.run.Goals as goal
 use Rattle.text_runs.proofs.run.Goals.{then-not-all_of_eight+else-loop-k-test, else-not-all_of_eight}
 
@@ -13,7 +13,7 @@ pub returns-then-not-passes : goal.returns-then-not-passes
 returns-then-not-passes g c = search rules
 
 pub loop-k-init : goal.loop-k-init
-loop-k-init g c = none_more c.run.invariant.2
+loop-k-init g c = search run_loop
 
 pub loop-k-preserved : goal.loop-k-preserved
 loop-k-preserved g c = one_more _ _ c.loop-k.invariant c.passes.ensures c.if-not-passes.false
