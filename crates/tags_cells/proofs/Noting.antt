@@ -1,7 +1,7 @@
 -- One attribute more, by each way through the code.
 use mathlib.Core.Path.{◌≡◌, refl, sym, ap, ◌∙◌}
 use mathlib.Core.List.{List, [], ◌∷◌}
-use mathlib.Core.Bool.{Bool, true, false, cond, not, ◌&&◌, ◌||◌}
+use mathlib.Core.Bool.{Bool, true, false, ◌&&◌, ◌||◌}
 use mathlib.Core.Logic.{⊎_elim}
 use Prim.Native.Nat.{ℕ, ◌+◌, ◌≤◌, ◌<◌}
 use native.Mathlib.Omega.{arith}
@@ -20,11 +20,9 @@ use Rattle.scan.proofs.Spans.{span_rest, span_all, span_stop}
 use Rattle.scan.proofs.Tests.{eq_or_ne}
 use Rattle.rules_judge.specs.Tables.{exact_size, size_in}
 use Rattle.tags_values.specs.Codes.{code_of, amount_of}
-use Rattle.tags_cells.specs.Cells.{is_first, with_code, with_amount, size_of_byte, with_exact}
+use Rattle.tags_cells.specs.Cells.{is_first, with_code, with_amount, size_of_byte}
 
 -- ── sizes ──
-
-pub ruleset byte_sizes = (eq-eqb, ne_eqb, rules)
 
 and_true : (t : Bool) → (t && true) ≡ t
 and_true true = refl
@@ -87,21 +85,6 @@ one_alone (b ∷ []) h f = f ∙ by (blank b) refl
 one_alone (b ∷ c ∷ v) h f = absurd (omega arith)
 
 pub ruleset sizes = (only_blanks, more_behind, one_stands, one_alone, rules)
-
-module _ (a : ℕ) (v codes : List ℕ) (exact : ℕ) where
-  pub first_size : {r : ℕ} → a ≡ 9 → get_or codes 9 0 ≡ 0 → r ≡ size_in v → r ≡ with_exact a v codes exact
-  unfolding with_exact
-  first_size e f g = g ∙ sym (rw (e, f))
-
-  pub later_size : a ≡ 9 → (get_or codes 9 0 ≡ 0 → ⊥) → exact ≡ with_exact a v codes exact
-  unfolding with_exact
-  later_size e f = sym (rw (e, ne_eqb (get_or codes 9 0) 0 f))
-
-  pub no_size : (a ≡ 9 → ⊥) → exact ≡ with_exact a v codes exact
-  unfolding with_exact
-  no_size e = sym (rw (ne_eqb a 9 e))
-
-pub ruleset exacts = (first_size, later_size, no_size, rules)
 
 -- ── a value ──
 

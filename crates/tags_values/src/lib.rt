@@ -12,6 +12,7 @@ use numbers::{Signed, read_number};
 use scan::same;
 use terms::{MOST_DOWN, MOST_SIGNED, MOST_SPACE, MOST_TEXT};
 
+// A code and no Result: a tag's cells hold codes (`tags_cells`), and there is an amount beside a fault too.
 #[derive(Clone, Copy)]
 pub struct Held {
     pub code: u8,
