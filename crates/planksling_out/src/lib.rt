@@ -15,10 +15,10 @@ ghost use Rattle.planksling_out.specs.Readings.{Shown, bit_of, shown_of};
 
 use access_checked::Checked;
 use access_reading::Reading;
-use access_writing::Written;
 use listing::Listing;
 use locate::Located;
 use plan_stages::Planned;
+use refusals::Refusal;
 use terms::{EVENTID, INT, STRING};
 
 // Of planning: the records and the variables.
@@ -118,15 +118,15 @@ pub fn tell_listed(told: Listing, count: &mut usize) -> usize
 }
 
 // Of writing, which has no value.
-pub fn tell_written(told: Written, place: &mut usize) -> usize
+pub fn tell_written(told: Result<(), Refusal>, place: &mut usize) -> usize
     ensures value { result ≡ number_in (written_of told) }
     ensures place_after { place.new ≡ place_after (written_of told) place.old }
 {
     match told {
-        Written::Accepted => 0,
-        Written::Refused { number, place: at } => {
-            *place = at;
-            number
+        Ok(()) => 0,
+        Err(refusal) => {
+            *place = refusal.place;
+            refusal.number
         }
     }
 }
@@ -143,8 +143,9 @@ fn bit(flag: bool) -> u64
 
 // Of reading: the value's kind; of an integer its sign and magnitude, of an event ID its number, of a text from where to before where in the window it
 // stands, and 0 for what the value doesn't have; whether writing the value now would be accepted.
+#[tactic(auto, unfolding(outcomes::specs::Outcomes::number_in, outcomes::specs::Outcomes::place_after, outcomes::specs::Outcomes::value_after, crate::specs::Readings::shown_of))]
 pub fn tell_read(
-    told: Reading,
+    told: Result<Reading, Refusal>,
     kind: &mut u64,
     negative: &mut u64,
     number: &mut u64,
@@ -163,11 +164,13 @@ pub fn tell_read(
     ensures place_after { place.new ≡ place_after (shown_of told) place.old }
 {
     match told {
-        Reading::Integer {
-            negative: below,
-            magnitude,
-            writable: again,
-        } => {
+        Ok(
+            Reading::Integer {
+                negative: below,
+                magnitude,
+                writable: again,
+            },
+        ) => {
             *kind = INT;
             *negative = bit(below);
             *number = magnitude;
@@ -176,10 +179,12 @@ pub fn tell_read(
             *writable = bit(again);
             0
         }
-        Reading::Event {
-            id,
-            writable: again,
-        } => {
+        Ok(
+            Reading::Event {
+                id,
+                writable: again,
+            },
+        ) => {
             *kind = EVENTID;
             *negative = 0;
             *number = id;
@@ -188,11 +193,13 @@ pub fn tell_read(
             *writable = bit(again);
             0
         }
-        Reading::Text {
-            from: i,
-            to: j,
-            writable: again,
-        } => {
+        Ok(
+            Reading::Text {
+                from: i,
+                to: j,
+                writable: again,
+            },
+        ) => {
             *kind = STRING;
             *negative = 0;
             *number = 0;
@@ -201,12 +208,9 @@ pub fn tell_read(
             *writable = bit(again);
             0
         }
-        Reading::Refused {
-            number: cause,
-            place: at,
-        } => {
-            *place = at;
-            cause
+        Err(refusal) => {
+            *place = refusal.place;
+            refusal.number
         }
     }
 }
