@@ -9,7 +9,7 @@ use answers_out::{tell, words};
 use frames_hash::{hash_bytes, with_number};
 use frames_signed::signed;
 use undo::{edit_event, edit_integer, edit_text, undo};
-use undo_edit::Outcome;
+use refusals::Refusal;
 
 // ── operations ──
 
@@ -22,16 +22,16 @@ pub struct Done {
 }
 
 // What a call says, and the session value: as before where it is refused.
-fn told(outcome: Outcome, before: u64) -> Done {
+fn told(outcome: Result<u64, Refusal>, before: u64) -> Done {
     match outcome {
-        Outcome::Stands(session) => Done {
+        Ok(session) => Done {
             number: 0,
             place: 0,
             session,
         },
-        Outcome::Refused { number, place } => Done {
-            number,
-            place,
+        Err(refusal) => Done {
+            number: refusal.number,
+            place: refusal.place,
             session: before,
         },
     }
@@ -47,7 +47,7 @@ fn call(
     journal: &mut [u8],
     session: u64,
     bytes: &[u8],
-) -> Outcome {
+) -> Result<u64, Refusal> {
     let n = asked.n;
     let space = held.space;
     let first = held.first;

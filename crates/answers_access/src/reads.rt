@@ -28,19 +28,19 @@ pub fn reading(text: &[u8], table: &[i64], n: u64, held: Held, window: &[u8]) ->
 {
     let answer = read(text, table, n, held.space, held.first, window);
     match answer {
-        Reading::Integer {
+        Ok(Reading::Integer {
             negative,
             magnitude,
             writable,
-        } => {
+        }) => {
             let word = either(negative, words::NEGATIVE, words::INTEGER);
             flagged(one(word, magnitude), writable)
         }
-        Reading::Event { id, writable } => flagged(one(words::EVENT, id), writable),
-        Reading::Text { from, to, writable } => {
+        Ok(Reading::Event { id, writable }) => flagged(one(words::EVENT, id), writable),
+        Ok(Reading::Text { from, to, writable }) => {
             spell(&window[from..to]);
             flagged(plain(words::NOTHING), writable)
         }
-        Reading::Refused { number, place } => refused(number, place),
+        Err(refusal) => refused(refusal.number, refusal.place),
     }
 }

@@ -3,19 +3,19 @@
 ghost use Rattle.std.specs.Prelude.{◌≤◌, IfSome};
 
 use access::{write_event, write_integer, write_text};
-use access_writing::Written;
 use answers_fields::{Asked, Held, read_value};
 use answers_out::lines::{Line, hashed, plain, refused};
 use answers_out::words;
 use frames_hash::hash_bytes;
+use refusals::Refusal;
 
 // `written` or `refused NUMBER PLACE`
-fn told(answer: Written) -> Line
+fn told(answer: Result<(), Refusal>) -> Line
     ensures { result.count ≤ 4 }
 {
     match answer {
-        Written::Accepted => plain(words::WRITTEN),
-        Written::Refused { number, place } => refused(number, place),
+        Ok(()) => plain(words::WRITTEN),
+        Err(refusal) => refused(refusal.number, refusal.place),
     }
 }
 
@@ -27,7 +27,7 @@ fn write(
     held: Held,
     window: &mut [u8],
     bytes: &[u8],
-) -> Written {
+) -> Result<(), Refusal> {
     let n = asked.n;
     let space = held.space;
     let first = held.first;

@@ -1,8 +1,10 @@
 -- What reading hands out, as numbers.
-use Rattle.std.specs.Prelude.{Bool, true, false, ℕ, ◌+◌, length, pos, negsuc, nat_abs}
-use Rattle.cdi.specs.Faults.{fault, Answer, accepted, refused, ◌and_then◌}
+use Rattle.std.specs.Prelude.{Bool, true, false, ℕ, ◌+◌, length, pos, negsuc, nat_abs, Result, Ok, Err}
+use Rattle.cdi.specs.Faults.{Answer, accepted, refused, ◌and_then◌}
 use Rattle.cdi.specs.Access as A
 use Rattle.cdi.specs.Access.{Value, integer, event, string, kind_of_value}
+use Rattle.refusals.specs.declared.Refusal.{Refusal}
+use Rattle.refusals.specs.Refusals.{fault_of}
 use Rattle.access_reading.specs.declared.Reading.{Reading}
 use Rattle.access_reading.specs.declared.Reading.TheVariants as reading
 
@@ -59,8 +61,8 @@ unfoldable pub showing : ℕ → Answer A.Reading → Answer Shown
 showing at a = a and_then λ r. accepted (shown_at at r)
 
 -- of what the code of reading says
-unfoldable pub shown_of : Reading → Answer Shown
-shown_of (reading.Integer b m f) = accepted (record { kind = 3; negative = bit_of b; number = m; from = 0; to = 0; writable = bit_of f })
-shown_of (reading.Event v f) = accepted (record { kind = 5; negative = 0; number = v; from = 0; to = 0; writable = bit_of f })
-shown_of (reading.Text i j f) = accepted (record { kind = 4; negative = 0; number = 0; from = i; to = j; writable = bit_of f })
-shown_of (reading.Refused n p) = refused (fault n p)
+unfoldable pub shown_of : Result Reading Refusal → Answer Shown
+shown_of (Ok (reading.Integer b m f)) = accepted (record { kind = 3; negative = bit_of b; number = m; from = 0; to = 0; writable = bit_of f })
+shown_of (Ok (reading.Event v f)) = accepted (record { kind = 5; negative = 0; number = v; from = 0; to = 0; writable = bit_of f })
+shown_of (Ok (reading.Text i j f)) = accepted (record { kind = 4; negative = 0; number = 0; from = i; to = j; writable = bit_of f })
+shown_of (Err r) = refused (fault_of r)

@@ -14,7 +14,6 @@ ghost use Rattle.outcomes.specs.Outcomes.{number_in, place_after, value_after};
 ghost use Rattle.planksling_out.specs.Readings.{Shown, bit_of, shown_of};
 
 use access_reading::Reading;
-use access_writing::Written;
 use locate::{Absent, Variable};
 use plan_stages::Planned;
 use refusals::Refusal;
@@ -108,15 +107,15 @@ pub fn tell_listed(told: Option<usize>, count: &mut usize) -> usize
 }
 
 // Of writing, which has no value.
-pub fn tell_written(told: Written, place: &mut usize) -> usize
+pub fn tell_written(told: Result<(), Refusal>, place: &mut usize) -> usize
     ensures value { result ≡ number_in (written_of told) }
     ensures place_after { place.new ≡ place_after (written_of told) place.old }
 {
     match told {
-        Written::Accepted => 0,
-        Written::Refused { number, place: at } => {
-            *place = at;
-            number
+        Ok(()) => 0,
+        Err(refusal) => {
+            *place = refusal.place;
+            refusal.number
         }
     }
 }
@@ -133,8 +132,9 @@ fn bit(flag: bool) -> u64
 
 // Of reading: the value's kind; of an integer its sign and magnitude, of an event ID its number, of a text from where to before where in the window it
 // stands, and 0 for what the value doesn't have; whether writing the value now would be accepted.
+#[tactic(auto, unfolding(outcomes::specs::Outcomes::number_in, outcomes::specs::Outcomes::place_after, outcomes::specs::Outcomes::value_after, crate::specs::Readings::shown_of))]
 pub fn tell_read(
-    told: Reading,
+    told: Result<Reading, Refusal>,
     kind: &mut u64,
     negative: &mut u64,
     number: &mut u64,
@@ -153,11 +153,13 @@ pub fn tell_read(
     ensures place_after { place.new ≡ place_after (shown_of told) place.old }
 {
     match told {
-        Reading::Integer {
-            negative: below,
-            magnitude,
-            writable: again,
-        } => {
+        Ok(
+            Reading::Integer {
+                negative: below,
+                magnitude,
+                writable: again,
+            },
+        ) => {
             *kind = INT;
             *negative = bit(below);
             *number = magnitude;
@@ -166,10 +168,12 @@ pub fn tell_read(
             *writable = bit(again);
             0
         }
-        Reading::Event {
-            id,
-            writable: again,
-        } => {
+        Ok(
+            Reading::Event {
+                id,
+                writable: again,
+            },
+        ) => {
             *kind = EVENTID;
             *negative = 0;
             *number = id;
@@ -178,11 +182,13 @@ pub fn tell_read(
             *writable = bit(again);
             0
         }
-        Reading::Text {
-            from: i,
-            to: j,
-            writable: again,
-        } => {
+        Ok(
+            Reading::Text {
+                from: i,
+                to: j,
+                writable: again,
+            },
+        ) => {
             *kind = STRING;
             *negative = 0;
             *number = 0;
@@ -191,12 +197,9 @@ pub fn tell_read(
             *writable = bit(again);
             0
         }
-        Reading::Refused {
-            number: cause,
-            place: at,
-        } => {
-            *place = at;
-            cause
+        Err(refusal) => {
+            *place = refusal.place;
+            refusal.number
         }
     }
 }

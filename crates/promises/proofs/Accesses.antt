@@ -33,8 +33,9 @@ use Rattle.locate.proofs.Once.{one_case}
 use Rattle.access_kinds.specs.Told.{window_of}
 use Rattle.access_lookup.specs.Told.{end_in, known_of}
 use Rattle.access_writing.specs.Told.{written_of}
-use Rattle.access_writing.specs.declared.Written.{Written}
-use Rattle.access_writing.specs.declared.Written.TheVariants as write
+use Rattle.refusals.specs.declared.Refusal.{Refusal}
+use Rattle.refusals.specs.Refusals.{refusal}
+use Rattle.std.specs.Prelude.{Result, Ok, Err}
 use Rattle.access_reading.specs.Told.{reading_of, ReadAt}
 use Rattle.access_reading.specs.declared.Reading as Read
 use Rattle.access_reading.specs.declared.Reading.TheVariants as reading
@@ -235,52 +236,52 @@ passes_all : (w : Window) (v : Value) (s : Setting) → Passed w v s → first_c
 unfolding first_cause write_causes
 passes_all w v s p = rw (p.allowed, eq-eqb _ _ p.kind, p.bounds, p.text, p.mapped, p.inside)
 
-module _ (b : List ℕ) (t : List ℤ) (n : ℕ) (w : Window) (v : Value) (s : Written) (said : written_of s ≡ written b t n w v) where
+module _ (b : List ℕ) (t : List ℤ) (n : ℕ) (w : Window) (v : Value) (s : Result (Unit {0}) Refusal) (said : written_of s ≡ written b t n w v) where
   module _ {m p : ℕ} where
-    write_cause : s ≡ write.Refused m p → AccessCause b t n (λ x. first_cause (write_causes w v x) ≡ refused (fault m p)) m p
+    write_cause : s ≡ Err (refusal m p) → AccessCause b t n (λ x. first_cause (write_causes w v x) ≡ refused (fault m p)) m p
     unfolding written_of written
     write_cause e = access_cause b t n (λ x. first_cause (write_causes w v x)) m p (sym said ∙ ap written_of e)
 
-    write_refused : AccessCause b t n (λ x. first_cause (write_causes w v x) ≡ refused (fault m p)) m p → s ≡ write.Refused m p
+    write_refused : AccessCause b t n (λ x. first_cause (write_causes w v x) ≡ refused (fault m p)) m p → s ≡ Err (refusal m p)
     unfolding written_of written
-    write_refused k = write_once b t n w v s (write.Refused m p) said (sym (access_refused b t n (λ x. first_cause (write_causes w v x)) m p k))
+    write_refused k = write_once b t n w v s (Err (refusal m p)) said (sym (access_refused b t n (λ x. first_cause (write_causes w v x)) m p k))
 
-    pub write_refused_exactly : s ≡ write.Refused m p ↔ AccessCause b t n (λ x. first_cause (write_causes w v x) ≡ refused (fault m p)) m p
+    pub write_refused_exactly : s ≡ Err (refusal m p) ↔ AccessCause b t n (λ x. first_cause (write_causes w v x) ≡ refused (fault m p)) m p
     write_refused_exactly = (write_cause, write_refused)
 
-    pub write_number : s ≡ write.Refused m p → TextNumber m ⊎ ((20 ≤ m) × (m ≤ 27))
+    pub write_number : s ≡ Err (refusal m p) → TextNumber m ⊎ ((20 ≤ m) × (m ≤ 27))
     write_number e = access_number 27 (omega arith) (λ x o. write_own w v x o) (write_cause e)
 
-    pub write_checked : {end : ℕ} → known_of b t ≡ accepted end → s ≡ write.Refused m p → (21 ≤ m) × (m ≤ 27) × (p ≡ 0)
+    pub write_checked : {end : ℕ} → known_of b t ≡ accepted end → s ≡ Err (refusal m p) → (21 ≤ m) × (m ≤ 27) × (p ≡ 0)
     write_checked h e = access_checked 27 (omega arith) (λ x o. write_own w v x o) h (write_cause e)
 
-  write_passed : s ≡ write.Accepted → (x : Setting) × (setting_of b t n ≡ accepted x) × Passed w v x
+  write_passed : s ≡ (Ok tt) → (x : Setting) × (setting_of b t n ≡ accepted x) × Passed w v x
   unfolding written_of written
   write_passed e = through (setting_of b t n) (λ x. first_cause (write_causes w v x)) tt (sym said ∙ ap written_of e) λ x found causes. (x, found, passed w v x causes)
 
-  write_accepted : (x : Setting) → setting_of b t n ≡ accepted x → Passed w v x → s ≡ write.Accepted
+  write_accepted : (x : Setting) → setting_of b t n ≡ accepted x → Passed w v x → s ≡ (Ok tt)
   unfolding written_of written
-  write_accepted x found all = write_once b t n w v s write.Accepted said (let z : written b t n w v ≡ accepted tt = rw found (passes_all w v x all) in sym z)
+  write_accepted x found all = write_once b t n w v s (Ok tt) said (let z : written b t n w v ≡ accepted tt = rw found (passes_all w v x all) in sym z)
 
-  pub write_accepted_exactly : s ≡ write.Accepted ↔ ((x : Setting) × (setting_of b t n ≡ accepted x) × Passed w v x)
+  pub write_accepted_exactly : s ≡ (Ok tt) ↔ ((x : Setting) × (setting_of b t n ≡ accepted x) × Passed w v x)
   write_accepted_exactly = (write_passed, λ x. write_accepted x.0 x.1 x.2)
 
-module _ (b : List ℕ) (t : List ℤ) (n space first : ℕ) (bytes : List ℕ) (q : Read.Reading) (is : reading_of bytes q ≡ read b t n (window_of space first bytes)) (at : ReadAt (start_for b t n first) bytes q) {m p : ℕ} where
-  read_cause : q ≡ reading.Refused m p → AccessCause b t n (λ x. read_from (window_of space first bytes) x ≡ refused (fault m p)) m p
+module _ (b : List ℕ) (t : List ℤ) (n space first : ℕ) (bytes : List ℕ) (q : Result Read.Reading Refusal) (is : reading_of bytes q ≡ read b t n (window_of space first bytes)) (at : ReadAt (start_for b t n first) bytes q) {m p : ℕ} where
+  read_cause : q ≡ Err (refusal m p) → AccessCause b t n (λ x. read_from (window_of space first bytes) x ≡ refused (fault m p)) m p
   unfolding reading_of read
   read_cause e = access_cause b t n (read_from (window_of space first bytes)) m p (sym is ∙ ap (reading_of bytes) e)
 
-  read_refused : AccessCause b t n (λ x. read_from (window_of space first bytes) x ≡ refused (fault m p)) m p → q ≡ reading.Refused m p
+  read_refused : AccessCause b t n (λ x. read_from (window_of space first bytes) x ≡ refused (fault m p)) m p → q ≡ Err (refusal m p)
   unfolding reading_of read ReadAt
-  read_refused k = read_once b t n space first bytes q (reading.Refused m p) is (sym (access_refused b t n (read_from (window_of space first bytes)) m p k)) at tt
+  read_refused k = read_once b t n space first bytes q (Err (refusal m p)) is (sym (access_refused b t n (read_from (window_of space first bytes)) m p k)) at tt
 
-  pub read_refused_exactly : q ≡ reading.Refused m p ↔ AccessCause b t n (λ x. read_from (window_of space first bytes) x ≡ refused (fault m p)) m p
+  pub read_refused_exactly : q ≡ Err (refusal m p) ↔ AccessCause b t n (λ x. read_from (window_of space first bytes) x ≡ refused (fault m p)) m p
   read_refused_exactly = (read_cause, read_refused)
 
-  pub read_number : q ≡ reading.Refused m p → TextNumber m ⊎ ((20 ≤ m) × (m ≤ 28))
+  pub read_number : q ≡ Err (refusal m p) → TextNumber m ⊎ ((20 ≤ m) × (m ≤ 28))
   read_number e = access_number 28 (omega arith) (λ x o. read_own (window_of space first bytes) x o) (read_cause e)
 
-  pub read_checked : {end : ℕ} → known_of b t ≡ accepted end → q ≡ reading.Refused m p → (21 ≤ m) × (m ≤ 28) × (p ≡ 0)
+  pub read_checked : {end : ℕ} → known_of b t ≡ accepted end → q ≡ Err (refusal m p) → (21 ≤ m) × (m ≤ 28) × (p ≡ 0)
   read_checked h e = access_checked 28 (omega arith) (λ x o. read_own (window_of space first bytes) x o) h (read_cause e)
 
 -- ── locating in any table ──

@@ -30,7 +30,9 @@ use Rattle.access_lookup.proofs.Seeking.{known_plan}
 use Rattle.access_reading.specs.Told.{reading_of, ReadAt}
 use Rattle.access_reading.specs.declared.Reading.TheVariants as reading
 use Rattle.access_writing.specs.Told.{written_of}
-use Rattle.access_writing.specs.declared.Written.TheVariants as write
+use Rattle.refusals.specs.declared.Refusal.{Refusal}
+use Rattle.refusals.specs.Refusals.{refusal}
+use Rattle.std.specs.Prelude.{Result, Ok, Err}
 use Rattle.outcomes.specs.Outcomes.{number_in, value_after}
 use Rattle.undo_model.specs.Sessions.{State, Edit, edited, undone, answered}
 use Rattle.undo_laws.proofs.Edits.{edit_30, undo_31, undo_35, undo_refused, edit_refused}
@@ -80,13 +82,13 @@ module _ (b : List ℕ) (t : List ℤ) where
   module _ (n : ℕ) (w : Window) where
     pub write_numbered : (v : Value) → Numbered (written b t n w v)
     unfolding written_of
-    write_numbered v f e = ⊎_elim (text_positive f.number) (λ z. omega arith) (accesses.write_number b t n w v (write.Refused f.number f.place) (sym e) refl)
+    write_numbered v f e = ⊎_elim (text_positive f.number) (λ z. omega arith) (accesses.write_number b t n w v (Err (refusal f.number f.place)) (sym e) refl)
 
   module _ (n space first : ℕ) (bytes : List ℕ) where
     pub read_numbered : Numbered (shown b t n space first bytes)
     unfolding shown reading_of ReadAt
     read_numbered f e =
-        ⊎_elim (text_positive f.number) (λ z. omega arith) (accesses.read_number b t n space first bytes (reading.Refused f.number f.place) (sym (not_shown f _ _ e)) tt refl)
+        ⊎_elim (text_positive f.number) (λ z. omega arith) (accesses.read_number b t n space first bytes (Err (refusal f.number f.place)) (sym (not_shown f _ _ e)) tt refl)
 
 -- 20, or another answer
 gated : {A : Type 0} (x : Bool) (a : Answer A) → Numbered a → Numbered (cond x a (refused (fault 20 0)))
@@ -166,11 +168,11 @@ checked_plan b t e h = known_plan b t h
 module _ (b : List ℕ) (t : List ℤ) {end : ℕ} (checked : known_of b t ≡ accepted end) (n space first : ℕ) (bytes : List ℕ) {f : Fault} where
   pub write_place : (v : Value) → written b t n (window_of space first bytes) v ≡ refused f → (21 ≤ f.number) × (f.number ≤ 27) × (f.place ≡ 0)
   unfolding written_of
-  write_place v e = accesses.write_checked b t n (window_of space first bytes) v (write.Refused f.number f.place) (sym e) checked refl
+  write_place v e = accesses.write_checked b t n (window_of space first bytes) v (Err (refusal f.number f.place)) (sym e) checked refl
 
   pub read_place : shown b t n space first bytes ≡ refused f → (21 ≤ f.number) × (f.number ≤ 28) × (f.place ≡ 0)
   unfolding shown reading_of ReadAt
-  read_place e = accesses.read_checked b t n space first bytes (reading.Refused f.number f.place) (sym (not_shown f _ _ e)) tt checked refl
+  read_place e = accesses.read_checked b t n space first bytes (Err (refusal f.number f.place)) (sym (not_shown f _ _ e)) tt checked refl
 
 -- ── edits and undos (R-6) ──
 
@@ -210,7 +212,7 @@ module _ (b : List ℕ) (t : List ℤ) (s : State) (f : Fault) where
     unfolding written_of
     edit_number =
         ⊎_elim
-        (λ p. ⊎_elim inl (λ h. inr (inl h)) (accesses.write_number b t e.number s.window e.value (write.Refused f.number f.place) (sym p) refl))
+        (λ p. ⊎_elim inl (λ h. inr (inl h)) (accesses.write_number b t e.number s.window e.value (Err (refusal f.number f.place)) (sym p) refl))
         (λ z. inr (inr (numbered z)))
         (edit_cause e q)
 
@@ -219,7 +221,7 @@ module _ (b : List ℕ) (t : List ℤ) (s : State) (f : Fault) where
     unfolding written_of
     edit_place k =
         ⊎_elim
-        (λ p. let h = accesses.write_checked b t e.number s.window e.value (write.Refused f.number f.place) (sym p) k refl in (h.0, omega arith, h.2))
+        (λ p. let h = accesses.write_checked b t e.number s.window e.value (Err (refusal f.number f.place)) (sym p) k refl in (h.0, omega arith, h.2))
         (λ z. rw z (omega arith, omega arith, refl))
         (edit_cause e q)
 

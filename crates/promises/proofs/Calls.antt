@@ -46,8 +46,9 @@ use Rattle.maps.specs.declared.Wanted.{Wanted}
 use Rattle.maps.specs.declared.Wanted.TheVariants.{Number, Event, Text}
 use Rattle.access_kinds.specs.Told.{window_of}
 use Rattle.access_writing.specs.Told.{written_of}
-use Rattle.access_writing.specs.declared.Written.{Written}
-use Rattle.access_writing.specs.declared.Written.TheVariants as write
+use Rattle.refusals.specs.declared.Refusal.{Refusal}
+use Rattle.refusals.specs.Refusals.{refusal}
+use Rattle.std.specs.Prelude.{Result, Ok, Err}
 use Rattle.access_reading.specs.Told.{reading_of, ReadAt}
 use Rattle.access_reading.specs.declared.Reading.{Reading}
 use Rattle.access_reading.specs.declared.Reading.TheVariants as reading
@@ -91,15 +92,15 @@ sign_of false m = refl
 sign_of true zero = refl
 sign_of true (suc m) = rw (lt-ltb 0 (suc m) (omega arith))
 
-echoed : (at : ℕ) (new : List ℕ) (q : Reading) (x : Wanted) (text : List ℕ) → reading_of new q ≡ accepted (record { value = wanted_of x text; writable = true }) → ReadAt at new q
+echoed : (at : ℕ) (new : List ℕ) (q : Result Reading Refusal) (x : Wanted) (text : List ℕ) → reading_of new q ≡ accepted (record { value = wanted_of x text; writable = true }) → ReadAt at new q
     → (x ≡ Text → (take (at + length text - at) (drop at new) ≡ text) × (at + length text ≤ length new)) → q ≡ echo at x text
 unfolding reading_of wanted_of ReadAt echo
 echoed at new q (Number b m) text e r k =
-    fetch_once at new _ q (reading.Integer (b && ltb 0 m) m true) e (ap (λ z. accepted (record { value = integer z; writable = true })) (sign_of b m)) r (λ s. ltb-true 0 m (both_right b (ltb 0 m) s))
-echoed at new q (Event i) text e r k = fetch_once at new _ q (reading.Event i true) e refl r tt
+    fetch_once at new _ q (Ok (reading.Integer (b && ltb 0 m) m true)) e (ap (λ z. accepted (record { value = integer z; writable = true })) (sign_of b m)) r (λ s. ltb-true 0 m (both_right b (ltb 0 m) s))
+echoed at new q (Event i) text e r k = fetch_once at new _ q (Ok (reading.Event i true)) e refl r tt
 echoed at new q Text text e r k =
     let z = k refl in
-    fetch_once at new _ q (reading.Text at (at + length text) true) e (ap (λ y. accepted (record { value = string y; writable = true })) z.0) r (refl, omega arith, z.1)
+    fetch_once at new _ q (Ok (reading.Text at (at + length text) true)) e (ap (λ y. accepted (record { value = string y; writable = true })) z.0) r (refl, omega arith, z.1)
 
 module _ (b : List ℕ) (t : List ℤ) {r : Result Planned Refusal} (answer : answer_of r ≡ planned b t) {n v : ℕ} (e : r ≡ Ok (sizes n v)) (c : List ℕ) (ends : content b ≡ some c) where
   same_text : (accepted_faultless b t answer e).text ≡ c
@@ -222,9 +223,9 @@ module _ (b : List ℕ) (t : List ℤ) {r : Result Planned Refusal} (answer : an
 
     -- ── writing and reading ──
 
-    module _ (k space first : ℕ) (bytes : List ℕ) (x : Wanted) (text : List ℕ) {s : Written} {new : List ℕ}
+    module _ (k space first : ℕ) (bytes : List ℕ) (x : Wanted) (text : List ℕ) {s : Result (Unit {0}) Refusal} {new : List ℕ}
         (said : written_of s ≡ written b plan k (window_of space first bytes) (wanted_of x text)) (left : new ≡ window_after b plan k (window_of space first bytes) (wanted_of x text))
-        (ok : s ≡ write.Accepted) (o : Found) where
+        (ok : s ≡ (Ok tt)) (o : Found) where
       abbrev f : Found
       f = get_or (walk (told c)) k o
 
@@ -266,7 +267,7 @@ module _ (b : List ℕ) (t : List ℤ) {r : Result Planned Refusal} (answer : an
       unfolding start_for
       start_is = rw (found, start_for)
 
-      module _ (q : Reading) (is : reading_of new q ≡ read b plan k (window_of space first new)) where
+      module _ (q : Result Reading Refusal) (is : reading_of new q ≡ read b plan k (window_of space first new)) where
         read_value : SixtyFour (wanted_of x text) → reading_of new q ≡ accepted (record { value = wanted_of x text; writable = true })
         read_value h = access.reads_back b plan k space first bytes (wanted_of x text) said left ok h q is
 

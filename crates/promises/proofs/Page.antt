@@ -12,10 +12,9 @@ use lib.ListN.{length, take, drop, get_or}
 use Rattle.std.specs.Prelude.{Result, Ok, Err}
 use Rattle.promises.proofs.Terms.{Fault, fault, before, least, accepted, refused, content, Found, walk, records_of, table_of, is_plan, segments_of, locating, leaving, described, planned, table_after}
 use Rattle.promises.proofs.Terms.{Value, Setting, setting_of, first_cause, write_causes, read_from, stored, written, window_after, read, NoZero, Passed, SixtyFour, answer_of, Planned, Refusal, refusal, sizes, told, Told, told_of, Variable, Absent}
-use Rattle.promises.proofs.Terms.{batch, listed, wanted_of, Wanted, window_of, written_of, Written, reading_of, ReadAt, Reading, start_for}
+use Rattle.promises.proofs.Terms.{batch, listed, wanted_of, Wanted, window_of, written_of, reading_of, ReadAt, Reading, start_for}
 use Rattle.promises.proofs.Terms.{MarkupNumber, RuleNumber, TextNumber, Among, of_markup, of_elements, Counted, Cause, AccessCause, variable_at, numbers_at, echo}
 use Rattle.locate.specs.declared.Absent.TheVariants.{NotAPlan, NoVariable}
-use Rattle.access_writing.specs.declared.Written.TheVariants as write
 use Rattle.access_reading.specs.declared.Reading.TheVariants as reading
 use Rattle.plan.proofs.Promises as planning
 use Rattle.access.proofs.Promises as access
@@ -64,24 +63,24 @@ locate_answers = accesses.locates
 
 -- writing and reading with any text, table, number and window
 module _ (b : List ℕ) (t : List ℤ) (n space first : ℕ) (bytes : List ℕ) where
-  module _ (v : Value) (s : Written) (said : written_of s ≡ written b t n (window_of space first bytes) v) {m p : ℕ} where
+  module _ (v : Value) (s : Result (Unit {0}) Refusal) (said : written_of s ≡ written b t n (window_of space first bytes) v) {m p : ℕ} where
     -- A write is refused exactly where there is a cause: planning's up to 12, then 20, 21, and the first of 27, 22, 23, 25, 24, 26.
-    pub write_refused : s ≡ write.Refused m p ↔ AccessCause b t n (λ x. first_cause (write_causes (window_of space first bytes) v x) ≡ refused (fault m p)) m p
+    pub write_refused : s ≡ Err (refusal m p) ↔ AccessCause b t n (λ x. first_cause (write_causes (window_of space first bytes) v x) ≡ refused (fault m p)) m p
     write_refused = accesses.write_refused_exactly b t n (window_of space first bytes) v s said
 
-    pub write_number : s ≡ write.Refused m p → TextNumber m ⊎ ((20 ≤ m) × (m ≤ 27))
+    pub write_number : s ≡ Err (refusal m p) → TextNumber m ⊎ ((20 ≤ m) × (m ≤ 27))
     write_number e = accesses.write_number b t n (window_of space first bytes) v s said e
 
     -- A refused write leaves the window as it was.
-    pub write_refusal_keeps : {new : List ℕ} → new ≡ window_after b t n (window_of space first bytes) v → s ≡ write.Refused m p → new ≡ bytes
+    pub write_refusal_keeps : {new : List ℕ} → new ≡ window_after b t n (window_of space first bytes) v → s ≡ Err (refusal m p) → new ≡ bytes
     write_refusal_keeps left e = access.refusal_writes_nothing b t n space first bytes v said left e
 
-  module _ (q : Reading) (is : reading_of bytes q ≡ read b t n (window_of space first bytes)) (at : ReadAt (start_for b t n first) bytes q) {m p : ℕ} where
+  module _ (q : Result Reading Refusal) (is : reading_of bytes q ≡ read b t n (window_of space first bytes)) (at : ReadAt (start_for b t n first) bytes q) {m p : ℕ} where
     -- A reading is refused exactly where there is a cause: planning's up to 12, then 20, 21, 27, 26, 28.
-    pub read_refused : q ≡ reading.Refused m p ↔ AccessCause b t n (λ x. read_from (window_of space first bytes) x ≡ refused (fault m p)) m p
+    pub read_refused : q ≡ Err (refusal m p) ↔ AccessCause b t n (λ x. read_from (window_of space first bytes) x ≡ refused (fault m p)) m p
     read_refused = accesses.read_refused_exactly b t n space first bytes q is at
 
-    pub read_number : q ≡ reading.Refused m p → TextNumber m ⊎ ((20 ≤ m) × (m ≤ 28))
+    pub read_number : q ≡ Err (refusal m p) → TextNumber m ⊎ ((20 ≤ m) × (m ≤ 28))
     read_number e = accesses.read_number b t n space first bytes q is at e
 
 -- Two texts that agree up to and including a first zero, wherever it stands: planning, writing and reading answer the same and leave the same.
@@ -90,12 +89,12 @@ module _ (c x y : List ℕ) (h : NoZero c) (t : List ℤ) where
       → u ≡ table_after (c ++ 0 ∷ x) t → o ≡ table_after (c ++ 0 ∷ y) t → (r ≡ q) × (u ≡ o)
   planning_alike = steps.plans_alike _ _ (steps.described_same c h x y) t
 
-  pub writing_alike : (n space first : ℕ) (bytes : List ℕ) (v : Value) (r q : Written) (u o : List ℕ)
+  pub writing_alike : (n space first : ℕ) (bytes : List ℕ) (v : Value) (r q : Result (Unit {0}) Refusal) (u o : List ℕ)
       → written_of r ≡ written (c ++ 0 ∷ x) t n (window_of space first bytes) v → written_of q ≡ written (c ++ 0 ∷ y) t n (window_of space first bytes) v
       → u ≡ window_after (c ++ 0 ∷ x) t n (window_of space first bytes) v → o ≡ window_after (c ++ 0 ∷ y) t n (window_of space first bytes) v → (r ≡ q) × (u ≡ o)
   writing_alike = steps.writes_alike _ _ (steps.described_same c h x y) t
 
-  pub reading_alike : (n space first : ℕ) (bytes : List ℕ) (r q : Reading)
+  pub reading_alike : (n space first : ℕ) (bytes : List ℕ) (r q : Result Reading Refusal)
       → reading_of bytes r ≡ read (c ++ 0 ∷ x) t n (window_of space first bytes) → reading_of bytes q ≡ read (c ++ 0 ∷ y) t n (window_of space first bytes)
       → ReadAt (start_for (c ++ 0 ∷ x) t n first) bytes r → ReadAt (start_for (c ++ 0 ∷ y) t n first) bytes q → r ≡ q
   reading_alike = steps.reads_alike _ _ (steps.described_same c h x y) t
@@ -111,8 +110,8 @@ pub plan_accepted : (b : List ℕ) (t : List ℤ) (r : Result Planned Refusal) �
 plan_accepted b t r answer = steps.accepted_exactly b t answer
 
 -- A write is accepted exactly when there is such a variable and the value passes: kind, bounds, text, map, window.
-pub write_accepted : (b : List ℕ) (t : List ℤ) (n space first : ℕ) (bytes : List ℕ) (v : Value) (s : Written) → written_of s ≡ written b t n (window_of space first bytes) v
-    → s ≡ write.Accepted ↔ ((x : Setting) × (setting_of b t n ≡ accepted x) × Passed (window_of space first bytes) v x)
+pub write_accepted : (b : List ℕ) (t : List ℤ) (n space first : ℕ) (bytes : List ℕ) (v : Value) (s : Result (Unit {0}) Refusal) → written_of s ≡ written b t n (window_of space first bytes) v
+    → s ≡ (Ok tt) ↔ ((x : Setting) × (setting_of b t n ≡ accepted x) × Passed (window_of space first bytes) v x)
 write_accepted b t n space first bytes v s said = accesses.write_accepted_exactly b t n (window_of space first bytes) v s said
 
 -- planning that accepts with n records and v variables: c is the content, and `plan` the first 8 times n numbers of the table afterwards
@@ -121,9 +120,9 @@ module _ (b : List ℕ) (t : List ℤ) {r : Result Planned Refusal} {u : List �
   plan = take (8 * n) u
 
   -- then an accepted write of the value x (or of the text beside it) into variable k, which leaves the bytes `new`; f is entry k of the walk
-  module _ (k space first : ℕ) (bytes : List ℕ) (x : Wanted) (text : List ℕ) {s : Written} {new : List ℕ}
+  module _ (k space first : ℕ) (bytes : List ℕ) (x : Wanted) (text : List ℕ) {s : Result (Unit {0}) Refusal} {new : List ℕ}
       (said : written_of s ≡ written b plan k (window_of space first bytes) (wanted_of x text)) (left : new ≡ window_after b plan k (window_of space first bytes) (wanted_of x text))
-      (ok : s ≡ write.Accepted) (o : Found) where
+      (ok : s ≡ (Ok tt)) (o : Found) where
     abbrev f : Found
     f = get_or (walk (told c)) k o
 
@@ -140,7 +139,7 @@ module _ (b : List ℕ) (t : List ℤ) {r : Result Planned Refusal} {u : List �
     write_keeps_others = calls.only_its_bytes b t answer e c ends after k space first bytes x text said left ok o
 
     -- Reading before any other write answers with that value, and that it could be written. (An event ID comes in with 64 bits.)
-    pub write_reads_back : (q : Reading) → reading_of new q ≡ read b plan k (window_of space first new) → SixtyFour (wanted_of x text) → ReadAt (start_for b plan k first) new q
+    pub write_reads_back : (q : Result Reading Refusal) → reading_of new q ≡ read b plan k (window_of space first new) → SixtyFour (wanted_of x text) → ReadAt (start_for b plan k first) new q
         → (q ≡ echo (f.address - first) x text) × (reading_of new q ≡ accepted (record { value = wanted_of x text; writable = true }))
     write_reads_back = calls.read_back b t answer e c ends after k space first bytes x text said left ok o
 

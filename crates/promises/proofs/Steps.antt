@@ -34,9 +34,10 @@ use Rattle.plan_stages.specs.declared.Planned.{Planned}
 use Rattle.plan.proofs.Once.{plan_once}
 use Rattle.access_kinds.specs.Told.{window_of}
 use Rattle.access_writing.specs.Told.{written_of}
-use Rattle.access_writing.specs.declared.Written.{Written}
 use Rattle.access_reading.specs.Told.{reading_of, ReadAt}
 use Rattle.access_reading.specs.declared.Reading.{Reading}
+use Rattle.refusals.specs.declared.Refusal.{Refusal}
+use Rattle.std.specs.Prelude.{Result}
 use Rattle.access.proofs.Once.{write_once, read_once}
 use Rattle.promises.proofs.Terms as why
 use Rattle.promises.proofs.Terms.{MarkupNumber, RuleNumber, TextNumber, Among, of_markup, of_elements, root_of, Opened, Formed, Ruled, Kept, Counted, Cause}
@@ -169,10 +170,10 @@ module _ (a b : List ℕ) (e : described a ≡ described b) where
     abbrev w : Window
     w = window_of space first bytes
 
-    pub writes_alike : (v : Value) (r q : Written) (u o : List ℕ) → written_of r ≡ written a t n w v → written_of q ≡ written b t n w v → u ≡ window_after a t n w v → o ≡ window_after b t n w v → (r ≡ q) × (u ≡ o)
+    pub writes_alike : (v : Value) (r q : Result (Unit {0}) Refusal) (u o : List ℕ) → written_of r ≡ written a t n w v → written_of q ≡ written b t n w v → u ≡ window_after a t n w v → o ≡ window_after b t n w v → (r ≡ q) × (u ≡ o)
     writes_alike v r q u o f g i j = (write_once b t n w v r q (f ∙ written_same t n w v) g, i ∙ window_same t n w v ∙ sym j)
 
-    pub reads_alike : (r q : Reading) → reading_of bytes r ≡ read a t n w → reading_of bytes q ≡ read b t n w → ReadAt (start_for a t n first) bytes r → ReadAt (start_for b t n first) bytes q → r ≡ q
+    pub reads_alike : (r q : Result Reading Refusal) → reading_of bytes r ≡ read a t n w → reading_of bytes q ≡ read b t n w → ReadAt (start_for a t n first) bytes r → ReadAt (start_for b t n first) bytes q → r ≡ q
     reads_alike r q f g i j = read_once b t n space first bytes r q (f ∙ read_same t n w) g (rw (start_same t n first) at i) j
 
 -- ── the cause of a refusal ──

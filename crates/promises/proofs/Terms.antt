@@ -18,6 +18,7 @@ use Rattle.cdi.specs.Walk.{total}
 use Rattle.cdi.specs.Planning.{Description, describe, cut}
 use Rattle.std.specs.Prelude.{Ok}
 use Rattle.maps.specs.declared.Wanted.TheVariants.{Number, Event, Text}
+use Rattle.std.specs.Prelude.{Ok}
 use Rattle.access_reading.specs.declared.Reading.TheVariants as answers
 pub use Rattle.cdi.specs.Faults.{Fault, fault, before, least, accepted, refused}
 pub use Rattle.cdi.specs.Text.{content}
@@ -42,7 +43,6 @@ pub use Rattle.maps.specs.Matches.{wanted_of}
 pub use Rattle.maps.specs.declared.Wanted.{Wanted}
 pub use Rattle.access_kinds.specs.Told.{window_of}
 pub use Rattle.access_writing.specs.Told.{written_of}
-pub use Rattle.access_writing.specs.declared.Written.{Written}
 pub use Rattle.access_reading.specs.Told.{reading_of, ReadAt}
 pub use Rattle.access_reading.specs.declared.Reading.{Reading}
 pub use Rattle.access.specs.Told.{start_for}
@@ -141,7 +141,7 @@ numbers_at f = f.number ∷ f.space ∷ f.address ∷ f.size ∷ f.kind ∷ []
 
 -- the answer of reading an integer, an event ID or the text s that was written and begins at this place of the window: zero isn't negative, and it could be written
 -- again
-unfoldable pub echo : ℕ → Wanted → List ℕ → Reading
-echo at (Number b m) s = answers.Integer (b && ltb 0 m) m true
-echo at (Event v) s = answers.Event v true
-echo at Text s = answers.Text at (at + length s) true
+unfoldable pub echo : ℕ → Wanted → List ℕ → Result Reading Refusal
+echo at (Number b m) s = Ok (answers.Integer (b && ltb 0 m) m true)
+echo at (Event v) s = Ok (answers.Event v true)
+echo at Text s = Ok (answers.Text at (at + length s) true)
