@@ -19,7 +19,6 @@ use Rattle.access.specs.Told.{start_for}
 use Rattle.refusals.specs.declared.Refusal.{Refusal}
 use Rattle.refusals.specs.Refusals.{refusal, fault_of}
 use Rattle.access_kinds.specs.declared.Setting.{Setting}
-use Rattle.std.specs.Prelude.{Result, Ok, Err}
 use Rattle.access_reading.specs.declared.Reading.{Reading}
 use Rattle.access_lookup.proofs.Seeking.{lent, known_end}
 use Rattle.access_reading.proofs.Fetching.{refused_anywhere}

@@ -18,8 +18,7 @@ use Rattle.levels.specs.Ahead.{here}
 use Rattle.children.specs.Siblings.{ahead, Behind, Passed, first_child, NextChild, nodes_in, Named}
 use Rattle.children.specs.Siblings.NextChild.{there, nowhere}
 use Rattle.children.specs.declared.Placed.{Placed}
-use Rattle.std.specs.Prelude.{Some, None}
-use Rattle.std.specs.Prelude.{Option as Maybe}
+use Rattle.std.specs.Prelude.{Some, None, Option as Maybe}
 use Rattle.children.specs.declared.Part.{Part}
 
 pub behind_once : {s : List ℕ} {at q r : ℕ} → Behind s at q → Behind s at r → ahead s q ≡ ahead s r

@@ -29,8 +29,7 @@ use Rattle.children.specs.Walk.{Came, Over}
 use Rattle.children.specs.declared.Part.TheVariants.{Missing, Empty, From}
 use Rattle.children.specs.Siblings.{ahead, turn_of, Behind, Passed, first_child, NextChild, part_of, nodes_in, Inside, Named}
 use Rattle.children.specs.Siblings.NextChild.{there, nowhere}
-use Rattle.std.specs.Prelude.{Some, None}
-use Rattle.std.specs.Prelude.{Option as Maybe}
+use Rattle.std.specs.Prelude.{Some, None, Option as Maybe}
 
 -- ── lists ──
 

@@ -1,6 +1,5 @@
 -- What the children of an element are, by place.
-use Rattle.std.specs.Prelude.{◌≡◌, Bool, cond, ℕ, ◌≤◌, ◌<◌, length, Some, None}
-use Rattle.std.specs.Prelude.{Option as Maybe}
+use Rattle.std.specs.Prelude.{◌≡◌, Bool, cond, ℕ, ◌≤◌, ◌<◌, length, Some, None, Option as Maybe}
 use mathlib.Core.List.{List, tail}
 use Rattle.std.proofs.Math.Option.{Option, none, some}
 use Rattle.cdi.specs.Tree.{Nodes, end, element, other, levels}

@@ -18,9 +18,8 @@ use Rattle.cdi.proofs.Named
 use Rattle.cdi.proofs.Named.{Silent, silent_none, silent_append, names_silent}
 use Rattle.scan.proofs.Tests.{eq_or_ne}
 use Rattle.names.specs.Names.{element_number}
-use Rattle.rules_judge.specs.Judging.{Least}
+use Rattle.rules_judge.specs.Judging.{Least, as_fault, to_least, blamed, row_at, enter_of}
 use Rattle.rules_judge.specs.declared.Judge.{Judge}
-use Rattle.rules_judge.specs.Judging.{as_fault, to_least, blamed, row_at, enter_of}
 use Rattle.rules_judge.specs.Tables.{entry_at, turn_number}
 use Rattle.rules_judge.proofs.Blaming.{blamed_none, blamed_append}
 use Rattle.rules_judge.proofs.Tabled.{no_entry}

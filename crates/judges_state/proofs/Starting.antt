@@ -3,9 +3,8 @@ use mathlib.Core.Path.{◌≡◌, refl, ap, ◌∙◌}
 use mathlib.Core.Bool.{false}
 use borrow.Author.Rules.{rules}
 use Rattle.keys.specs.Keys.{fault_in}
-use Rattle.rules_judge.specs.Judging.{Least}
+use Rattle.rules_judge.specs.Judging.{Least, to_least, fresh}
 use Rattle.std.specs.Prelude.{None}
-use Rattle.rules_judge.specs.Judging.{to_least, fresh}
 use Rattle.judges_state.specs.declared.Judge.{Judge}
 use Rattle.judges_state.specs.Decoded.{least_in, judge_of}
 

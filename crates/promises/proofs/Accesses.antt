@@ -25,7 +25,7 @@ use Rattle.cdi.proofs.PlanOf.{same_table_law, table_itself}
 use Rattle.cdi.proofs.Back.{Passed, passed}
 use Rattle.cdi.proofs.Promises.{nth_is, nth_none, count_is}
 use Rattle.locate.specs.Answers.{told_of}
-use Rattle.std.specs.Prelude.{Result, Err}
+use Rattle.std.specs.Prelude.{Result, Err, Ok}
 use Rattle.locate.specs.declared.Variable.{Variable}
 use Rattle.locate.specs.declared.Absent.{Absent}
 use Rattle.locate.specs.declared.Absent.TheVariants.{NotAPlan, NoVariable}
@@ -35,7 +35,6 @@ use Rattle.access_lookup.specs.Told.{end_in, known_of}
 use Rattle.access_writing.specs.Told.{written_of}
 use Rattle.refusals.specs.declared.Refusal.{Refusal}
 use Rattle.refusals.specs.Refusals.{refusal}
-use Rattle.std.specs.Prelude.{Result, Ok, Err}
 use Rattle.access_reading.specs.Told.{reading_of, ReadAt}
 use Rattle.access_reading.specs.declared.Reading as Read
 use Rattle.access_reading.specs.declared.Reading.TheVariants as reading

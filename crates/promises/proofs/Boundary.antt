@@ -30,9 +30,6 @@ use Rattle.access_lookup.proofs.Seeking.{known_plan}
 use Rattle.access_reading.specs.Told.{reading_of, ReadAt}
 use Rattle.access_reading.specs.declared.Reading.TheVariants as reading
 use Rattle.access_writing.specs.Told.{written_of}
-use Rattle.refusals.specs.declared.Refusal.{Refusal}
-use Rattle.refusals.specs.Refusals.{refusal}
-use Rattle.std.specs.Prelude.{Result, Ok, Err}
 use Rattle.outcomes.specs.Outcomes.{number_in, value_after}
 use Rattle.undo_model.specs.Sessions.{State, Edit, edited, undone, answered}
 use Rattle.undo_laws.proofs.Edits.{edit_30, undo_31, undo_35, undo_refused, edit_refused}

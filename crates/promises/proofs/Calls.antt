@@ -35,7 +35,6 @@ use Rattle.refusals.specs.Refusals.{refusal}
 use Rattle.plan_stages.specs.Outlines.{sizes, answer_of}
 use Rattle.plan.proofs.Promises.{told, Faultless, accepted_faultless, records_in_front}
 use Rattle.locate.specs.Answers.{told_of}
-use Rattle.std.specs.Prelude.{Result, Err}
 use Rattle.locate.specs.declared.Variable.{Variable}
 use Rattle.locate.specs.declared.Absent.{Absent}
 use Rattle.locate.specs.declared.Absent.TheVariants.{NoVariable}
@@ -46,9 +45,6 @@ use Rattle.maps.specs.declared.Wanted.{Wanted}
 use Rattle.maps.specs.declared.Wanted.TheVariants.{Number, Event, Text}
 use Rattle.access_kinds.specs.Told.{window_of}
 use Rattle.access_writing.specs.Told.{written_of}
-use Rattle.refusals.specs.declared.Refusal.{Refusal}
-use Rattle.refusals.specs.Refusals.{refusal}
-use Rattle.std.specs.Prelude.{Result, Ok, Err}
 use Rattle.access_reading.specs.Told.{reading_of, ReadAt}
 use Rattle.access_reading.specs.declared.Reading.{Reading}
 use Rattle.access_reading.specs.declared.Reading.TheVariants as reading

@@ -10,10 +10,7 @@ use Prim.Native.Nat.{ℕ, ◌+◌, ◌*◌, ◌-◌, ◌/◌, ◌≤◌, ◌<◌
 use lib.IntN.{ℤ}
 use lib.ListN.{length, take, drop, get_or}
 use Rattle.std.specs.Prelude.{Result, Ok, Err}
-use Rattle.promises.proofs.Terms.{Fault, fault, before, least, accepted, refused, content, Found, walk, records_of, table_of, is_plan, segments_of, locating, leaving, described, planned, table_after}
-use Rattle.promises.proofs.Terms.{Value, Setting, setting_of, first_cause, write_causes, read_from, stored, written, window_after, read, NoZero, Passed, SixtyFour, answer_of, Planned, Refusal, refusal, sizes, told, Told, told_of, Variable, Absent}
-use Rattle.promises.proofs.Terms.{batch, listed, wanted_of, Wanted, window_of, written_of, reading_of, ReadAt, Reading, start_for}
-use Rattle.promises.proofs.Terms.{MarkupNumber, RuleNumber, TextNumber, Among, of_markup, of_elements, Counted, Cause, AccessCause, variable_at, numbers_at, echo}
+use Rattle.promises.proofs.Terms.{Fault, fault, before, least, accepted, refused, content, Found, walk, records_of, table_of, is_plan, segments_of, locating, leaving, described, planned, table_after, Value, Setting, setting_of, first_cause, write_causes, read_from, stored, written, window_after, read, NoZero, Passed, SixtyFour, answer_of, Planned, Refusal, refusal, sizes, told, Told, told_of, Variable, Absent, batch, listed, wanted_of, Wanted, window_of, written_of, reading_of, ReadAt, Reading, start_for, MarkupNumber, RuleNumber, TextNumber, Among, of_markup, of_elements, Counted, Cause, AccessCause, variable_at, numbers_at, echo}
 use Rattle.locate.specs.declared.Absent.TheVariants.{NotAPlan, NoVariable}
 use Rattle.access_reading.specs.declared.Reading.TheVariants as reading
 use Rattle.plan.proofs.Promises as planning

@@ -36,8 +36,6 @@ use Rattle.access_kinds.specs.Told.{window_of}
 use Rattle.access_writing.specs.Told.{written_of}
 use Rattle.access_reading.specs.Told.{reading_of, ReadAt}
 use Rattle.access_reading.specs.declared.Reading.{Reading}
-use Rattle.refusals.specs.declared.Refusal.{Refusal}
-use Rattle.std.specs.Prelude.{Result}
 use Rattle.access.proofs.Once.{write_once, read_once}
 use Rattle.promises.proofs.Terms as why
 use Rattle.promises.proofs.Terms.{MarkupNumber, RuleNumber, TextNumber, Among, of_markup, of_elements, root_of, Opened, Formed, Ruled, Kept, Counted, Cause}

@@ -18,7 +18,6 @@ use Rattle.cdi.specs.Walk.{total}
 use Rattle.cdi.specs.Planning.{Description, describe, cut}
 use Rattle.std.specs.Prelude.{Ok}
 use Rattle.maps.specs.declared.Wanted.TheVariants.{Number, Event, Text}
-use Rattle.std.specs.Prelude.{Ok}
 use Rattle.access_reading.specs.declared.Reading.TheVariants as answers
 pub use Rattle.cdi.specs.Faults.{Fault, fault, before, least, accepted, refused}
 pub use Rattle.cdi.specs.Text.{content}

@@ -16,14 +16,13 @@ use Rattle.cdi.specs.Rules as R
 use Rattle.cdi.specs.Rules.{Before, nothing_before, behind, child_faults, own_number, bound_of, bounds_of, is_signed, bound_faults, tested, size_text, size_of, is_int, int_faults}
 use Rattle.cdi.proofs.Quiet.{impossible, same_equal, same_comm}
 use Rattle.cdi.proofs.Tests.{both_left, both_right}
-use Rattle.rules_judge.specs.Judging.{Least}
+use Rattle.rules_judge.specs.Judging.{Least, row_at, as_whole, is_value, value_said, absent, fresh, bound_blame, int_blame, bounding, judge_nodes, judging_page}
 use Rattle.rules_judge.specs.declared.Bound.{Bound}
 use Rattle.rules_judge.specs.declared.Said.{Said}
 use Rattle.rules_judge.specs.declared.Said.TheVariants.{Silent}
 use Rattle.names.specs.Names.{element_number}
 use Rattle.cdi.specs.Values.{with_sign}
 use Rattle.terms.specs.Wholes.{whole_of}
-use Rattle.rules_judge.specs.Judging.{row_at, as_whole, is_value, value_said, absent, fresh, bound_blame, int_blame, bounding, judge_nodes, judging_page}
 use Rattle.rules.proofs.Ordered.{like_nothing}
 use Rattle.rules.proofs.Heard.{heard, heard_means}
 use Rattle.rules.proofs.Kept.{int, bound_from, After, after}

@@ -14,11 +14,10 @@ use Rattle.cdi.specs.Numbers.{number, bounded}
 use Rattle.cdi.specs.Rules.{entry_of, range_faults, own_text, own_number, number_names, number_faults, is_int}
 use Rattle.cdi.proofs.Quiet.{impossible}
 use Rattle.rules_judge.specs.declared.Judge.{Judge}
-use Rattle.rules_judge.specs.Judging.{Least}
+use Rattle.rules_judge.specs.Judging.{Least, row_at, is_foreign, as_whole, said_by, said_faults, is_value, spoken, is_number_row, fresh, enter_of, other_of, number_blame, passed, leave_of, judge_nodes}
 use Rattle.rules_judge.specs.declared.Said.{Said}
 use Rattle.rules_judge.specs.declared.Said.TheVariants.{Silent, No, Large, Value}
 use Rattle.names.specs.Names.{element_number}
-use Rattle.rules_judge.specs.Judging.{row_at, is_foreign, as_whole, said_by, said_faults, is_value, spoken, is_number_row, fresh, enter_of, other_of, number_blame, passed, leave_of, judge_nodes}
 use Rattle.rules.proofs.Named.{Numbered}
 use Rattle.rules.proofs.Steps.{Reads, reads_other, reads_leave, cond_holds, given_holds}
 

@@ -12,10 +12,9 @@ use Rattle.cdi.specs.Rows.{Row, row_of}
 use Rattle.cdi.specs.Rules.{Before, nothing_before, behind, entry_of, child_faults, stray_faults, attribute_faults, missing_faults, number_faults, int_faults, own_faults, is_int, is_known, faults_in, element_faults, unknown_element}
 use Rattle.cdi.proofs.Least.{lesser_assoc, lesser_comm, lesser_none, least_append}
 use Rattle.rules_judge.specs.declared.Judge.{Judge}
-use Rattle.rules_judge.specs.Judging.{Least}
+use Rattle.rules_judge.specs.Judging.{Least, as_fault, blamed, row_at, is_foreign, fresh, entry_faults, enter_of, other_of, missing, number_blame, int_blame, passed, leave_of, judge_nodes}
 use Rattle.std.specs.Prelude.{None}
 use Rattle.names.specs.Names.{element_number}
-use Rattle.rules_judge.specs.Judging.{as_fault, blamed, row_at, is_foreign, fresh, entry_faults, enter_of, other_of, missing, number_blame, int_blame, passed, leave_of, judge_nodes}
 use Rattle.rules_judge.proofs.Blamed.{blamed_least}
 use Rattle.rules.proofs.Named.{Numbered, numbered, counted}
 use Rattle.rules.proofs.Ordered.{Like, like_nothing, child_alike}

@@ -13,9 +13,8 @@ use Rattle.cdi.specs.Rows.{row_of, rows_page}
 use Rattle.cdi.specs.Rules.{missing_child, entry_from, entry_of, has_child, missing_faults}
 use Rattle.cdi.proofs.Quiet.{same_equal, same_self}
 use Rattle.rules_judge.specs.declared.Judge.{Judge}
-use Rattle.rules_judge.specs.Judging.{Least}
+use Rattle.rules_judge.specs.Judging.{Least, row_at, is_foreign, fresh, enter_of, other_of, missing, passed, leave_of, judge_nodes, judging_page}
 use Rattle.names.specs.Names.{element_number}
-use Rattle.rules_judge.specs.Judging.{row_at, is_foreign, fresh, enter_of, other_of, missing, passed, leave_of, judge_nodes, judging_page}
 use Rattle.rules.proofs.Named.{Numbered}
 use Rattle.rules.proofs.Ordered.{lesser_same}
 use Rattle.rules.proofs.Steps.{Reads, reads_other, reads_leave, cond_holds, not_foreign, looked_up}

@@ -15,9 +15,8 @@ use Rattle.cdi.specs.Rows.{row_of}
 use Rattle.cdi.specs.Rules.{entry_of, attribute_faults, size_text, size_of}
 use Rattle.scan.proofs.Tests.{lt_or_le}
 use Rattle.names.specs.Names.{element_number}
-use Rattle.rules_judge.specs.Judging.{Least}
+use Rattle.rules_judge.specs.Judging.{Least, blamed, row_at, is_foreign, fresh, entry_faults, enter_of, missing, number_blame, bound_blame, int_blame, bound_sound, passed, leave_of}
 use Rattle.rules_judge.specs.declared.Judge.{Judge}
-use Rattle.rules_judge.specs.Judging.{blamed, row_at, is_foreign, fresh, entry_faults, enter_of, missing, number_blame, bound_blame, int_blame, bound_sound, passed, leave_of}
 use Rattle.rules_judge.specs.Tables.{entry_at, many_at, in_turn, turn_number, size_in, int_size}
 use Rattle.rules_judge.specs.Parts.{is_limit, missing_by, number_by, int_by, limit_sound, left_of}
 use Rattle.rules_judge.proofs.Blaming.{blamed_in_turn}

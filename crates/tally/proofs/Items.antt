@@ -21,8 +21,7 @@ use Rattle.extent.specs.Reach.{nowhere, by_offset, by_size, by_step, join, exten
 use Rattle.extent.specs.declared.Extent.{Extent}
 use Rattle.extent.proofs.Joins.{size_sound, join_nowhere}
 use Rattle.extent.proofs.Holding.{held_join, held_append, held_copies}
-use Rattle.tally_tag.specs.Tallying.{Leaves}
-use Rattle.tally_tag.specs.Tallying.{Tallied, numbers_of, is_group, kind_of, own_extent, record_of, tally_nodes}
+use Rattle.tally_tag.specs.Tallying.{Leaves, Tallied, numbers_of, is_group, kind_of, own_extent, record_of, tally_nodes}
 use Rattle.tally.proofs.Levels.{tally, tallied, group_tallied, variable_tallied, other_tallied}
 use Rattle.tally.proofs.Tags.{offset_told, size_told, replication_least, replication_told}
 use Rattle.tally.proofs.Parts.{sets_append, sets_three}

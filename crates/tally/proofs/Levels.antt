@@ -12,9 +12,8 @@ use Rattle.cdi.specs.Tree.Nodes.{end, element, other}
 use Rattle.cdi.specs.Rows.{data_names}
 use Rattle.extent.specs.Reach.{nowhere, fits_at, join, held}
 use Rattle.extent.specs.declared.Extent.{Extent}
-use Rattle.tally_tag.specs.Tallying.{Leaves}
+use Rattle.tally_tag.specs.Tallying.{Leaves, Tallied, numbers_of, is_group, is_segment, recorded, level_in, enter_of, own_extent, first_leaving, leave_of, record_of, written, tally_nodes}
 use Rattle.tally_tag.specs.declared.Tally.{Tally}
-use Rattle.tally_tag.specs.Tallying.{Tallied, numbers_of, is_group, is_segment, recorded, level_in, enter_of, own_extent, first_leaving, leave_of, record_of, written, tally_nodes}
 
 -- a tally of these numbers
 abbrev pub tally : Extent → ℕ → ℕ → ℕ → Leaves → Tally

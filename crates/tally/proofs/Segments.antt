@@ -22,9 +22,8 @@ use Rattle.cdi.proofs.Ranges.{judged, judged_other, kept}
 use Rattle.extent.specs.Reach.{extent_of, fits_at, held}
 use Rattle.extent.specs.declared.Extent.{Extent}
 use Rattle.extent.proofs.Holding.{held_keeps}
-use Rattle.tally_tag.specs.Tallying.{Leaves}
+use Rattle.tally_tag.specs.Tallying.{Leaves, Tallied, as_fault, numbers_of, is_segment, kind_of, first_leaving, record_of, tally_nodes}
 use Rattle.std.specs.Prelude.{Some, None}
-use Rattle.tally_tag.specs.Tallying.{Tallied, as_fault, numbers_of, is_segment, kind_of, first_leaving, record_of, tally_nodes}
 use Rattle.tally.proofs.Levels.{tally, tallied, segment_tallied, aside_tallied}
 use Rattle.tally.proofs.Tags.{origin_most, origin_told, space_told}
 use Rattle.tally.proofs.Parts.{sets_three}
