@@ -5,20 +5,27 @@ ghost use Rattle.list.specs.Sizes.{within};
 
 use std::io::{Read, Stdin};
 
-// Reads to the end of the input or of the slice, whichever comes first, and tells how many bytes that are; `None` where a read failed.
-pub fn read_text(input: Stdin, text: &mut [u8]) -> Option<usize>
+// How many bytes were read, or that a read failed.
+#[derive(Clone, Copy)]
+pub enum Text {
+    Is(usize),
+    Failed,
+}
+
+// Reads to the end of the input or of the slice, whichever comes first.
+pub fn read_text(input: Stdin, text: &mut [u8]) -> Text
     ensures { within (length text.old) result ≡ true }
 {
     let mut from = input;
     let mut at = 0;
     while at < text.len() {
         let Ok(n) = from.read(&mut text[at..]) else {
-            return None;
+            return Text::Failed;
         };
         if n == 0 {
-            return Some(at);
+            return Text::Is(at);
         }
-        at += n;
+        at = at + n;
     }
-    Some(at)
+    Text::Is(at)
 }
