@@ -36,8 +36,7 @@ pub fn put_lines(out: &mut [u8], first: u64, numbers: &[u64], count: usize) -> u
     ensures ends { result ≤ count * 92 }
 {
     let mut at = 0;
-    let mut i = 0;
-    while i < count {
+    for i in 0..count {
         let from = i * 5;
         at = put_line(
             out,
@@ -48,7 +47,6 @@ pub fn put_lines(out: &mut [u8], first: u64, numbers: &[u64], count: usize) -> u
             numbers[from + 3],
             numbers[from + 4],
         );
-        i += 1;
     }
     at
 }

@@ -1,56 +1,13 @@
--- Bytes put into a slice, one behind another.
-use mathlib.Core.Path.{◌≡◌, refl, sym, ap, ◌∙◌}
-use mathlib.Core.List.{List, [], ◌∷◌, ◌++◌, append_assoc, append-nil}
-use Prim.Native.Nat.{ℕ, suc, ◌+◌, ◌^◌, ◌≤◌, ◌<◌}
-use native.Mathlib.Nat.{add-zero}
-use native.Mathlib.Numerals.{add-one}
-use native.Mathlib.Omega.{arith}
+-- The parts of a line, put one behind another.
+use mathlib.Core.Path.{◌≡◌, ap, ◌∙◌}
+use mathlib.Core.List.{List, [], ◌∷◌, ◌++◌}
+use Prim.Native.Nat.{ℕ, ◌^◌, ◌<◌}
 use borrow.Author.Rules.{rules}
-use lib.ListN.{length, take, set, get_or, length-set}
-use lib.Seq.{take-suc, take-suc-set, take_all}
+use lib.ListN.{take}
 use borrow.Author.Tests.{eq-eqb, ne_eqb}
 use Rattle.io.specs.Digits.{last_digits, IsDigitCount}
 use Rattle.lines_items.specs.Bytes.{decimal, next, kind_word, line, refusal_line, count_line}
 use Rattle.lines_items.proofs.Spelled.{spelled}
-
--- i of the bytes are put behind the first `at`
-pub record Put (o₀ o : List ℕ) (at : ℕ) (b : List ℕ) (i : ℕ) : Type 0 where
-  pub is : take (at + i) o ≡ take at o₀ ++ take i b
-  pub size : length o ≡ length o₀
-  pub high : i ≤ length b
-
-pub put_start : (o : List ℕ) (at : ℕ) (b : List ℕ) → Put o o at b 0
-put_start o at b = record { is = ap (λ (k : ℕ). take k o) (add-zero at) ∙ sym (append-nil (take at o)); size = refl; high = omega arith }
-
-module _ {o₀ o : List ℕ} {at : ℕ} {b : List ℕ} {i : ℕ} (v : Put o₀ o at b i) where
-  pub put_room : at + length b ≤ length o₀ → i < length b → at + i < length o
-  put_room h l = omega (arith, v.size)
-
-  pub put_next : at + length b ≤ length o₀ → i < length b → Put o₀ (set o (at + i) (get_or b i 0)) at b (i + 1)
-  put_next h l =
-      record {
-        is =
-            ap (λ k. take k (set o (at + i) (get_or b i 0))) (the_next at i)
-            ∙ take-suc-set o (at + i) (get_or b i 0) (put_room h l)
-            ∙ ap (λ (t : List ℕ). t ++ (get_or b i 0 ∷ [])) v.is
-            ∙ append_assoc (take at o₀) (take i b) (get_or b i 0 ∷ [])
-            ∙ ap (λ (t : List ℕ). take at o₀ ++ t) (sym (take-suc b i 0 l))
-            ∙ ap (λ k. take at o₀ ++ take k b) (sym (add-one i));
-        size = length-set o (at + i) (get_or b i 0) ∙ v.size;
-        high = omega arith;
-      }
-    where
-      the_next : (a j : ℕ) → a + (j + 1) ≡ suc (a + j)
-      the_next a j = omega arith
-
-  pub put_end : length b ≤ i → take (at + length b) o ≡ take at o₀ ++ b
-  put_end h =
-      let e : i ≡ length b = omega (arith, v.high) in
-      ap (λ k. take (at + k) o) (sym e) ∙ v.is ∙ ap (λ (t : List ℕ). take at o₀ ++ t) (take_all i b h)
-
-pub ruleset putting = (put_start, put_room, put_next, put_end, rules)
-
--- ── the parts of a line ──
 
 -- the digits that were put are the number's
 pub number_put : (t s d : List ℕ) (k n : ℕ) → n < 2 ^ 64 → IsDigitCount 10 1 n k → t ≡ s ++ take k d → take k d ≡ last_digits 10 k n → t ≡ s ++ decimal n
