@@ -58,12 +58,10 @@ pub fn shut(s: &[u8], from: usize, to: usize, at: usize) -> usize
     if s[at + n] != 62 {
         return 0;
     }
-    let mut i = 0;
-    while i < n {
+    for i in 0..n {
         if s[from + i] != s[at + i] {
             return 0;
         }
-        i += 1;
     }
     at + n + 1
 }

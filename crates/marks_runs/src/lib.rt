@@ -7,6 +7,7 @@ ghost use Rattle.scan.specs.Spans.{Span};
 ghost use Rattle.marks_cuts.specs.Marks.{plain};
 ghost use Rattle.marks_runs.specs.Runs.{bracketed, Runs};
 
+use scan::span_while;
 use spans::blanks;
 
 // A run of text: its end, or 0 where `]]>` stands in it, and its first byte that isn't blank, or its end. Where `]]>` stands in it, that byte
@@ -32,15 +33,7 @@ pub fn text_end(s: &[u8], at: usize) -> usize
     requires { at ≤ length s.now }
     ensures { Span plain s.now at result }
 {
-    let mut i = at;
-    while i < s.len() {
-        if is_plain(s[i]) {
-            i += 1;
-        } else {
-            return i;
-        }
-    }
-    i
+    span_while(s, at, |b| is_plain(b))
 }
 
 // Does `]]` stand right before this place, and not before `from`?
@@ -61,15 +54,18 @@ pub fn run_at(s: &[u8], at: usize) -> Run
     ensures bounds { (result.end ≤ length s.now) × (at ≤ result.solid) × (result.solid ≤ length s.now) }
 {
     let solid = blanks(s, at);
-    let mut i = text_end(s, solid);
-    while i < s.len() {
-        if s[i] != 62 {
-            return Run { end: i, solid };
+    for i in solid..s.len() {
+        if !is_plain(s[i]) {
+            if s[i] != 62 {
+                return Run { end: i, solid };
+            }
+            if is_bracketed(s, at, i) {
+                return Run { end: 0, solid };
+            }
         }
-        if is_bracketed(s, at, i) {
-            return Run { end: 0, solid };
-        }
-        i = text_end(s, i + 1);
     }
-    Run { end: i, solid }
+    Run {
+        end: s.len(),
+        solid,
+    }
 }
