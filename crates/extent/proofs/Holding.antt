@@ -4,7 +4,7 @@ use mathlib.Core.List.{List, ◌++◌}
 use Prim.Native.Nat.{ℕ, zero, suc, pred, ◌+◌, ◌*◌, ◌-◌, ◌^◌, ◌≤◌, ◌<◌, min, max}
 use native.Mathlib.Omega.{arith}
 use native.Mathlib.Decide.{dec_lt}
-use native.Mathlib.Nat.{mul-le-mul, mul-le-mul_left, mul-le-mul_right}
+use native.Mathlib.Nat.{mul-le-mul_left, mul-le-mul_right}
 use borrow.Author.Rules.{rules}
 use borrow.Author.Tests.{lt-ltb, le-ltb, le-leb, lt-leb}
 use lib.Dec.{leb}
@@ -168,22 +168,3 @@ module _ {r : Extent} where
   repeated_is m e h c d u f s = let l : m - 1 ≡ pred m = omega arith in h ∙ rw (c, f, s, d, u, l)
 
 pub ruleset made = (moved_is, stood_is, joined_is, repeated_is, rules)
-
--- a product that can't wrap
-pub product : (m d : ℕ) → (m < 2 ^ 31) × (d ≤ 2 ^ 32 + 1) → m * d ≤ (2 ^ 31 - 1) * (2 ^ 32 + 1)
-product m d h = mul-le-mul {n₂ = 2 ^ 31 - 1} (omega arith) h.1
-
-pub product_fits : (m d : ℕ) → (m < 2 ^ 31) × (d ≤ 2 ^ 32 + 1) → m * d < 2 ^ 64
-product_fits m d h = omega (arith, product m d h)
-
-pub ruleset products = (product, product_fits, rules)
-
-pub fits_not : (n : ℕ) (e : Extent) → n < e.below → leb e.below n ≡ fits_at n e
-unfolding fits_at
-fits_not n e h = sym (rw (lt-leb _ _ h))
-
-pub fits_is : (n : ℕ) (e : Extent) → e.below ≤ n → leb (n + e.span) (2 ^ 32 + e.below) ≡ fits_at n e
-unfolding fits_at
-fits_is n e h = sym (rw (le-leb _ _ h))
-
-pub ruleset fitting = (fits_not, fits_is, rules)

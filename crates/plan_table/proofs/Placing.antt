@@ -24,10 +24,6 @@ use Rattle.refusals.specs.Refusals.{fault_of}
 use Rattle.plan_stages.specs.declared.Planned.{Planned}
 use Rattle.plan_stages.specs.Outlines.{Outline, outline, outlined, outline_of, of_markup, in_room, said_of, Few, answer_of, put_of, planned_by, after_by}
 
--- there is room where that is said
-pub room_known : {x : Bool} {m l : ℕ} → x ≡ leb m l → x ≡ true → m ≤ l
-room_known {x} {m} {l} e h = leb-true m l (sym e ∙ h)
-
 -- ── the whole plan ──
 
 -- the rows of an outline are 8 numbers for each record

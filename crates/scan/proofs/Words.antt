@@ -44,8 +44,6 @@ module _ {s : List ℕ} {at : ℕ} {word : List ℕ} {i : ℕ} (v : Agrees s at 
 pub start : (s : List ℕ) (at : ℕ) (word : List ℕ) → Agrees s at word 0
 start s at word = record { left = rw add-zero }
 
-pub ruleset word_loop = (start, full, short, differs, agrees, rules)
-
 -- the library compares a word with as many bytes
 front_begins : (w s : List ℕ) → pointwise eqb w (take (length w) s) ≡ begins w s
 unfolding begins
