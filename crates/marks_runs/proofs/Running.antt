@@ -16,7 +16,7 @@ use Rattle.scan.proofs.Tests.{lt_or_le}
 use Rattle.pieces_cuts.specs.Cuts.{Stands}
 use Rattle.marks_cuts.specs.Marks.{plain, bad_cut}
 use Rattle.marks_cuts.proofs.Inside.{span_inside}
-use Rattle.marks_cuts.proofs.Runs.{Marked, Running, plain_text, blank_plain, ends, broken}
+use Rattle.marks_cuts.proofs.Runs.{Marked, Running, plain_text, plain_right, right_text, blank_plain, ends, broken}
 use Rattle.marks_runs.specs.Runs.{bracketed, Runs}
 
 -- ── single bytes ──
@@ -44,16 +44,9 @@ pub ruleset brackets = (too_early, two_before, rules)
 
 -- ── the run ──
 
-right_text : (x : ℕ) → x ≡ 62 → is_text x ≡ true
-unfolding is_text
-right_text x e = rw e
-
 right_stops : (x : ℕ) → x ≡ 62 → plain x ≡ false
 unfolding plain is_text
 right_stops x e = rw e
-
-plain_right : (x : ℕ) → plain x ≡ true → x ≡ 62 → ⊥
-plain_right x e z = false≢true (sym (right_stops x z) ∙ e)
 
 -- what the loop knows: the run reaches to i at least, and `]]>` doesn't stand before i
 pub record Knows (s : List ℕ) (at b i : ℕ) : Type 0 where

@@ -134,6 +134,7 @@ fn content(s: &[u8], at: usize, left: usize, begun: usize, st: State, rows: &mut
     let mut i = at;
     let mut b = begun;
     let mut sum = st;
+    // A `while`: a step goes past a whole piece.
     while i < s.len() {
         let sort = sort_of(s, i);
         if sort == 0 {

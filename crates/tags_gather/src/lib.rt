@@ -58,6 +58,7 @@ pub fn gather(
     let mut known = true;
     let mut again = false;
     let mut strange = false;
+    // A `loop`: a step goes past a whole attribute, up to the place where none is read.
     loop {
         let a = next_spot(s, i);
         let end = a.end;

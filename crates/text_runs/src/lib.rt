@@ -76,6 +76,7 @@ fn run<T: Test>(s: &[u8], at: usize) -> usize
     ensures { (at ≤ result) × (result ≤ length s.now) × AllOf T.passing s.now at result }
 {
     let mut i = at;
+    // A loop whose value is the place, left by a label: the specification's form (15.9).
     'run: loop {
         if s.len() - i < STEP {
             break i;
