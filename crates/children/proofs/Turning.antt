@@ -245,9 +245,6 @@ pub record Looks (s : List ℕ) (at i : ℕ) : Type 0 where
   pub low : at ≤ i
   pub high : i ≤ length s
 
-pub look : (s : List ℕ) (at : ℕ) → at ≤ length s → 2 ≤ length (ahead s at) → Looks s at at
-look s at h l = record { is = refl; deep = l; low = omega arith; high = h }
-
 module _ {s : List ℕ} {at i : ℕ} (w : Looks s at i) where
   pub looked : length s ≤ i → NextChild s at None
   unfolding first_child tree top

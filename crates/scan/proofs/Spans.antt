@@ -44,8 +44,6 @@ module _ {p : ℕ → Bool} {s : List ℕ} {at i : ℕ} (v : Spanning p s at i) 
     unfolding span_end while
     goes f = record { left = v.left ∙ rw (drop_next s i h, ← e, f) (omega arith); low = omega (arith, v.low); high = omega arith }
 
-pub ruleset span_loop = (start, out, stops, goes, rules)
-
 -- ── what a span says ──
 
 while_after : (p : ℕ → Bool) (s : List ℕ) → (while p s ≡ take (length (while p s)) s) × (after p s ≡ drop (length (while p s)) s)
