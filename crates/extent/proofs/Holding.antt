@@ -168,3 +168,13 @@ module _ {r : Extent} where
   repeated_is m e h c d u f s = let l : m - 1 ≡ pred m = omega arith in h ∙ rw (c, f, s, d, u, l)
 
 pub ruleset made = (moved_is, stood_is, joined_is, repeated_is, rules)
+
+pub fits_not : (n : ℕ) (e : Extent) → n < e.below → leb e.below n ≡ fits_at n e
+unfolding fits_at
+fits_not n e h = sym (rw (lt-leb _ _ h))
+
+pub fits_is : (n : ℕ) (e : Extent) → e.below ≤ n → leb (n + e.span) (2 ^ 32 + e.below) ≡ fits_at n e
+unfolding fits_at
+fits_is n e h = sym (rw (le-leb _ _ h))
+
+pub ruleset fitting = (fits_not, fits_is, rules)
