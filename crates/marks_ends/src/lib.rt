@@ -58,10 +58,13 @@ pub fn shut(s: &[u8], from: usize, to: usize, at: usize) -> usize
     if s[at + n] != 62 {
         return 0;
     }
-    for i in 0..n {
+    // A `while`: tried as a `for`, it is slower.
+    let mut i = 0;
+    while i < n {
         if s[from + i] != s[at + i] {
             return 0;
         }
+        i += 1;
     }
     at + n + 1
 }
