@@ -1,40 +1,23 @@
--- A negative number of 64 bits, made from its distance below -1.
-use mathlib.Core.Path.{◌≡◌, refl, sym, ap, ◌∙◌}
+-- The number that 64 bits are by their sign.
+use mathlib.Core.Path.{◌≡◌, sym, ap, ◌∙◌}
 use mathlib.Core.Bool.{true}
-use Prim.Native.Nat.{ℕ, zero, suc, ◌-◌, ◌^◌, ◌<◌, ◌≤◌}
-use native.Mathlib.Nat.{zero-add}
+use Prim.Native.Nat.{ℕ, suc, ◌-◌, ◌^◌, ◌<◌, ◌≤◌}
 use native.Mathlib.Omega.{arith}
+use native.Mathlib.Decide.{dec_le}
 use borrow.Author.Tests.{le-leb, lt-leb}
-use lib.IntN.{pos, negsuc, ◌-ℤ◌}
 use mir.Syntax.{w64}
-use mir.Val.{SFits, to_z, of_z}
-use mir.ValLaws.{to_z_pos, to_z-of_z}
+use mir.Val.{to_z}
+use mir.ValLaws.{to_z_pos, to_z-neg}
 use Rattle.cdi.specs.Values.{uncomplement}
 
-below_fits : (n : ℕ) → n < 2 ^ 63 → SFits w64 (negsuc 0 -ℤ pos n)
-below_fits zero h = record { sfits = omega arith }
-below_fits (suc n) h = record { sfits = omega arith }
-
--- the upper half of the 64-bit numbers
-pub turned : (v : ℕ) → 2 ^ 63 ≤ v → SFits w64 (negsuc 0 -ℤ to_z w64 (2 ^ 64 - 1 - v))
-turned v h = rw (to_z_pos w64 (2 ^ 64 - 1 - v) (omega arith)) (below_fits (2 ^ 64 - 1 - v) (omega arith))
-
--- ── what it is ──
-
-below : (n : ℕ) → negsuc 0 -ℤ pos n ≡ negsuc n
-below zero = refl
-below (suc n) = ap (λ (k : ℕ). negsuc (suc k)) (zero-add n)
-
-module _ (v : ℕ) where
-  pub low_half : v < 2 ^ 63 → to_z w64 v ≡ uncomplement true 8 v
-  unfolding uncomplement
-  low_half h = to_z_pos w64 v (omega arith) ∙ sym (rw (lt-leb (2 ^ 63) v h))
-
-  pub high_half : 2 ^ 63 ≤ v → v < 2 ^ 64 → to_z w64 (of_z w64 (negsuc 0 -ℤ to_z w64 (2 ^ 64 - 1 - v))) ≡ uncomplement true 8 v
-  unfolding uncomplement
-  high_half h l =
-      let e : 256 ^ 8 - v ≡ suc (2 ^ 64 - 1 - v) = omega arith in
-      to_z-of_z w64 (negsuc 0 -ℤ to_z w64 (2 ^ 64 - 1 - v)) (turned v h)
-      ∙ ap (λ z. negsuc 0 -ℤ z) (to_z_pos w64 (2 ^ 64 - 1 - v) (omega arith))
-      ∙ below (2 ^ 64 - 1 - v)
-      ∙ sym (rw (le-leb (2 ^ 63) v h, e))
+pub turned : (v : ℕ) → v < 2 ^ 64 → to_z w64 v ≡ uncomplement true 8 v
+unfolding uncomplement
+turned v l = by (dec_le (2 ^ 63) v)
+  where
+    by : Dec (2 ^ 63 ≤ v) → to_z w64 v ≡ uncomplement true 8 v
+    by (yes h) =
+        let k = 2 ^ 64 - 1 - v in
+        let e : 256 ^ 8 - v ≡ suc k = omega arith in
+        let f : v ≡ 2 ^ 64 - suc k = omega arith in
+        ap (to_z w64) f ∙ to_z-neg w64 k (omega arith) ∙ sym (rw (le-leb (2 ^ 63) v h, e))
+    by (no h) = to_z_pos w64 v (omega arith) ∙ sym (rw (lt-leb (2 ^ 63) v (omega arith)))

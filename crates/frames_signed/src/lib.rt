@@ -8,8 +8,5 @@ ghost use Rattle.cdi.specs.Values.{uncomplement};
 pub fn signed(v: u64) -> i64
     ensures { result ≡ uncomplement true 8 v }
 {
-    if v < 0x8000_0000_0000_0000 {
-        return v as i64;
-    }
-    -1 - ((0xFFFF_FFFF_FFFF_FFFF - v) as i64)
+    v.cast_signed()
 }

@@ -16,7 +16,6 @@ use Rattle.cdi.proofs.Room.{fits, fits_table, short, refuses}
 use Rattle.cdi.proofs.Promises.{table_is_plan}
 use Rattle.cdi.proofs.PlanOf.{length_table}
 use Rattle.cdi.proofs.Quiet.{impossible}
-use borrow.Author.Rules.{rules}
 use Rattle.std.specs.Prelude.{Result, Ok}
 use Rattle.refusals.specs.declared.Refusal.{Refusal}
 use Rattle.plan_stages.specs.declared.Planned.{Planned}

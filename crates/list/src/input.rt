@@ -5,27 +5,19 @@ ghost use Rattle.list.specs.Sizes.{within};
 
 use std::io::{Read, Stdin};
 
-// How many bytes were read, or that a read failed.
-#[derive(Clone, Copy)]
-pub enum Text {
-    Is(usize),
-    Failed,
-}
-
-// Reads to the end of the input or of the slice, whichever comes first.
-pub fn read_text(input: Stdin, text: &mut [u8]) -> Text
+// Reads to the end of the input or of the slice, whichever comes first, and tells how many bytes that are; `None` where a read failed.
+pub fn read_text(input: Stdin, text: &mut [u8]) -> Option<usize>
     ensures { within (length text.old) result ≡ true }
 {
     let mut from = input;
     let mut at = 0;
+    // A read says how far it came, so no `for` counts the bytes.
     while at < text.len() {
-        let Ok(n) = from.read(&mut text[at..]) else {
-            return Text::Failed;
-        };
+        let n = from.read(&mut text[at..]).ok()?;
         if n == 0 {
-            return Text::Is(at);
+            return Some(at);
         }
-        at = at + n;
+        at += n;
     }
-    Text::Is(at)
+    Some(at)
 }

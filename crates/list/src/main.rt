@@ -7,7 +7,7 @@ pub mod input;
 ghost use Rattle.std.specs.Prelude.{◌≡◌, true, ◌*◌, ◌/◌, ◌≤◌, length};
 ghost use Rattle.cdi.specs.Plans.{is_plan};
 
-use input::{Text, read_text};
+use input::read_text;
 use lines::{put_count, put_refusal};
 use list_lines::lines_from;
 use plan::plan;
@@ -19,16 +19,16 @@ fn write_lines(table: &[i64], numbers: &mut [u64], out: &mut [u8]) -> bool
     requires { (is_plan table.now ≡ true) × (length numbers.old / 5 * 92 ≤ length out.old) }
 {
     let mut n = 0;
+    // The step is as many variables as a batch had room for, so no `for` counts them.
     while n < MOST_VARIABLES {
         let told = lines_from(table, n, numbers, out);
-        let size = told.size;
-        if !io::write_all(1, &out[0..size]) {
+        if !io::write_all(1, &out[..told.size]) {
             return false;
         }
         if told.count == 0 {
             return true;
         }
-        n = n + told.count as u64;
+        n += told.count as u64;
     }
     true
 }
@@ -68,11 +68,11 @@ fn tell(what: &[u8]) {
 fn run(input: Stdin, text: &mut [u8], table: &mut [i64], numbers: &mut [u64], out: &mut [u8])
     requires { (64 ≤ length out.old) × (length numbers.old / 5 * 92 ≤ length out.old) }
 {
-    let Text::Is(size) = read_text(input, text) else {
+    let Some(size) = read_text(input, text) else {
         tell(b"list: standard input can't be read\n");
         return;
     };
-    if !answer(&text[0..size], table, numbers, out) {
+    if !answer(&text[..size], table, numbers, out) {
         tell(b"list: standard output can't be written\n");
     }
 }
