@@ -27,8 +27,6 @@ use Rattle.undo_model.specs.Journal.{room, beginning, has_room, entry_bytes}
 use Rattle.undo_model.specs.Sessions.{State, holding, entry_of, can_stand, answered, after}
 use Rattle.undo_laws.proofs.Entries.{room_exactly}
 use Rattle.undo_entries.specs.Begun.{begun_of, stands_in, entry_for}
-use Rattle.undo_entries.specs.declared.Begun.{Begun}
-use Rattle.undo_entries.specs.declared.Begun.TheVariants.{At, Nothing}
 use Rattle.undo_edit.specs.Told.{outcome_of, state_of, window_left, journal_left, edited_in}
 use Rattle.refusals.specs.Refusals.{refusal}
 use Rattle.std.specs.Prelude.{Option, Some, None, Ok, Err}
@@ -74,8 +72,8 @@ module _ (c : List ℕ) {s : Setting} (g : Good c s) (n session space first : �
     edit_room = has_room_law c g space first bytes v t ei x none
 
     -- 30
-    module _ {b : Begun} (f : begun_of b ≡ stands_in (room j) session s.size) where
-      module _ (e : b ≡ Nothing) where
+    module _ {b : Option ℕ} (f : begun_of b ≡ stands_in (room j) session s.size) where
+      module _ (e : b ≡ None) where
         cannot : can_stand st (setting_is c s).variable ≡ false
         unfolding begun_of stands_in can_stand setting_is
         cannot = by (ltb session 64 && has_room (room j) session s.size) (sym f ∙ ap begun_of e)
@@ -100,7 +98,7 @@ module _ (c : List ℕ) {s : Setting} (g : Good c s) (n session space first : �
         unfolding after
         full_journal = sym (rw full_answer)
 
-      module _ {at : ℕ} (e : b ≡ At at) where
+      module _ {at : ℕ} (e : b ≡ Some at) where
         found : (ltb session 64 && has_room (room j) session s.size ≡ true) × (beginning (room j) session ≡ at)
         unfolding begun_of stands_in
         found = by (ltb session 64 && has_room (room j) session s.size) refl (sym f ∙ ap begun_of e)

@@ -12,7 +12,7 @@ use access_kinds::{Setting, is_inside};
 use access_writing::put;
 use maps::Wanted;
 use refusals::Refusal;
-use undo_entries::{Begun, HEAD, keep, place_for};
+use undo_entries::{HEAD, keep, place_for};
 
 // Edits variable `n`, whose setting is known: how many edits stand, or the refusal.
 pub fn edit_setting(
@@ -36,11 +36,11 @@ pub fn edit_setting(
     match write_cause(content, setting, inside, value, string) {
         Some(number) => Err(Refusal { number, place: 0 }),
         None => match place_for(journal, session, setting.size) {
-            Begun::Nothing => Err(Refusal {
+            None => Err(Refusal {
                 number: 30,
                 place: 0,
             }),
-            Begun::At(at) => {
+            Some(at) => {
                 let from = (setting.address - first) as usize;
                 let to = from + setting.size;
                 let end = at + HEAD + setting.size;

@@ -1,15 +1,12 @@
 -- What the walk along a journal answers.
-use Rattle.std.specs.Prelude.{List, cond, ◌&&◌, ℕ, ◌+◌, ◌-◌, ltb, length}
+use Rattle.std.specs.Prelude.{List, cond, ◌&&◌, ℕ, ◌+◌, ◌-◌, ltb, length, Some, None, Option as Maybe}
 use Rattle.std.proofs.Math.Option.{Option, none, some}
 use Rattle.undo_model.specs.Journal.{Entry, four_at, beginning, lie, has_room}
-use Rattle.undo_entries.specs.declared.Begun.{Begun}
-use Rattle.undo_entries.specs.declared.Begun.TheVariants as begin
 use Rattle.undo_entries.specs.declared.Last.{Last}
-use Rattle.undo_entries.specs.declared.Last.TheVariants as last
 
-unfoldable pub begun_of : Begun → Option ℕ
-begun_of (begin.At i) = some i
-begun_of begin.Nothing = none
+unfoldable pub begun_of : Maybe ℕ → Option ℕ
+begun_of (Some i) = some i
+begun_of None = none
 
 -- where entry k begins in a room, if all entries before it lie there
 unfoldable pub begun : List ℕ → ℕ → Option ℕ
@@ -29,9 +26,9 @@ pub record Head : Type 0 where
   pub size : ℕ
   pub from : ℕ
 
-unfoldable pub last_of : Last → Option Head
-last_of (last.At n z i) = some (record { number = n; size = z; from = i })
-last_of last.Nothing = none
+unfoldable pub last_of : Maybe Last → Option Head
+last_of (Some l) = some (record { number = l.number; size = l.size; from = l.from })
+last_of None = none
 
 -- the head of the entry before entry k
 unfoldable pub head_in : List ℕ → ℕ → Head

@@ -21,10 +21,9 @@ use Rattle.undo_model.specs.Sessions.{State, latest, can_undo, taken_back, undon
 use Rattle.undo_edit.specs.Told.{outcome_of, state_of, window_left}
 use Rattle.refusals.specs.declared.Refusal.{Refusal}
 use Rattle.refusals.specs.Refusals.{refusal}
-use Rattle.std.specs.Prelude.{Result, Ok, Err}
+use Rattle.std.specs.Prelude.{Result, Ok, Err, Some, None, Option as Maybe}
 use Rattle.undo_entries.specs.Begun.{Head, last_of, head_in, last_in}
 use Rattle.undo_entries.specs.declared.Last.{Last}
-use Rattle.undo_entries.specs.declared.Last.TheVariants as last
 use Rattle.access_kinds.specs.Told.{no_text, setting_is}
 use Rattle.access_kinds.specs.declared.Setting.{Setting}
 use Rattle.undo_take.specs.Held.{Held}
@@ -77,8 +76,8 @@ module _ (b : List ℕ) (t : List ℤ) {end : ℕ} (known : known_of b t ≡ acc
   unfolding after
   zero_window z = sym (rw (none_stand z))
 
-  module _ (h : session ≡ 0 → ⊥) {l : Last} (f : last_of l ≡ last_in (room j) session) where
-    missing : l ≡ last.Nothing → lie (room j) session ≡ false
+  module _ (h : session ≡ 0 → ⊥) {l : Maybe Last} (f : last_of l ≡ last_in (room j) session) where
+    missing : l ≡ None → lie (room j) session ≡ false
     unfolding last_of last_in
     missing e = by (lie (room j) session) (head_in (room j) session) (sym f ∙ ap last_of e)
       where
@@ -86,32 +85,32 @@ module _ (b : List ℕ) (t : List ℤ) {end : ℕ} (known : known_of b t ≡ acc
         by true o q = impossible (cc)
         by false o q = refl
 
-    pub missing_told : l ≡ last.Nothing → outcome_of (Err (refusal 35 0)) ≡ answered a
+    pub missing_told : l ≡ None → outcome_of (Err (refusal 35 0)) ≡ answered a
     unfolding outcome_of answered
     missing_told e = sym (rw (entry_missing h (missing e)))
 
-    pub missing_window : l ≡ last.Nothing → bytes ≡ window_left st a
+    pub missing_window : l ≡ None → bytes ≡ window_left st a
     unfolding after
     missing_window e = sym (rw (entry_missing h (missing e)))
 
-    module _ {n z i : ℕ} (e : l ≡ last.At n z i) where
-      heads : (lie (room j) session ≡ true) × (head_in (room j) session ≡ record { number = n; size = z; from = i })
+    module _ {y : Last} (e : l ≡ Some y) where
+      heads : (lie (room j) session ≡ true) × (head_in (room j) session ≡ record { number = y.number; size = y.size; from = y.from })
       unfolding last_of last_in head_in
       heads = by (lie (room j) session) refl (sym f ∙ ap last_of e)
         where
-          by : (x : Bool) → lie (room j) session ≡ x → cond x (some (head_in (room j) session)) none ≡ some (record { number = n; size = z; from = i }) → (lie (room j) session ≡ true) × (head_in (room j) session ≡ record { number = n; size = z; from = i })
+          by : (x : Bool) → lie (room j) session ≡ x → cond x (some (head_in (room j) session)) none ≡ some (record { number = y.number; size = y.size; from = y.from }) → (lie (room j) session ≡ true) × (head_in (room j) session ≡ record { number = y.number; size = y.size; from = y.from })
           by true p q = (p, cc)
           by false p q = impossible (cc)
 
-      pub held : Held j session z i
+      pub held : Held j session y.size y.from
       unfolding head_in
       held = record { lies = heads.0; sized = ap (λ (x : Head). x.size) heads.1; begins = ap (λ (x : Head). x.from) heads.1 }
 
-      number_is : (latest st).number ≡ n
+      number_is : (latest st).number ≡ y.number
       unfolding latest entry_at head_in
       number_is = ap (λ (x : Head). x.number) heads.1
 
-      module _ (c : List ℕ) {x : Result Setting Refusal} (k : lookup_of c x ≡ setting_of b t n) where
+      module _ (c : List ℕ) {x : Result Setting Refusal} (k : lookup_of c x ≡ setting_of b t y.number) where
         module _ {r : Refusal} (q : x ≡ Err r) where
           nothing : a ≡ refused (fault 35 0)
           unfolding lookup_of

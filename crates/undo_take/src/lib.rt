@@ -12,7 +12,7 @@ ghost use Rattle.undo_take.specs.Held.{Held};
 use access_kinds::{Setting, is_inside};
 use access_lookup::seek;
 use refusals::Refusal;
-use undo_entries::{Last, last_of};
+use undo_entries::last_of;
 use values::put_text;
 
 // Puts the old bytes of this size, which stand in the journal from one place on, back into the variable that is known.
@@ -71,21 +71,19 @@ pub fn undo_known(
             place: 0,
         });
     }
-    match last_of(journal, session) {
-        Last::Nothing => Err(Refusal {
+    let Some(last) = last_of(journal, session) else {
+        return Err(Refusal {
             number: 35,
             place: 0,
-        }),
-        Last::At { number, size, from } => {
-            match seek(text, end, table, number) {
-                Err(_) => Err(Refusal {
+        });
+    };
+    let Ok(setting) = seek(text, end, table, last.number) else {
+        return Err(Refusal {
             number: 35,
             place: 0,
-        }),
-                Ok(setting) => put_back(
-                    setting, space, first, window, journal, session, size, from,
-                ),
-            }
-        }
-    }
+        });
+    };
+    put_back(
+        setting, space, first, window, journal, session, last.size, last.from,
+    )
 }

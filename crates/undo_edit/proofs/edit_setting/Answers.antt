@@ -23,17 +23,17 @@ overflow_add-to c =
 
 pub overflow_add-end : goal.overflow_add-end
 overflow_add-end c =
-    omega (arith, in_room_law c.args.content.now c.requires c.args.n c.args.session c.args.space c.args.first c.args.window.now c.args.journal.now c.args.value c.args.string.now c.is_inside-inside.ensures c.write_cause.ensures c.in-None.is c.place_for.ensures c.in-At.is)
+    omega (arith, in_room_law c.args.content.now c.requires c.args.n c.args.session c.args.space c.args.first c.args.window.now c.args.journal.now c.args.value c.args.string.now c.is_inside-inside.ensures c.write_cause.ensures c.in-None.is c.place_for.ensures c.in-Some-place_for.is)
 
-pub overflow_add-end-in-At : goal.overflow_add-end-in-At
-overflow_add-end-in-At c =
-    omega (arith, in_room_law c.args.content.now c.requires c.args.n c.args.session c.args.space c.args.first c.args.window.now c.args.journal.now c.args.value c.args.string.now c.is_inside-inside.ensures c.write_cause.ensures c.in-None.is c.place_for.ensures c.in-At.is)
+pub overflow_add-end-in-Some-place_for : goal.overflow_add-end-in-Some-place_for
+overflow_add-end-in-Some-place_for c =
+    omega (arith, in_room_law c.args.content.now c.requires c.args.n c.args.session c.args.space c.args.first c.args.window.now c.args.journal.now c.args.value c.args.string.now c.is_inside-inside.ensures c.write_cause.ensures c.in-None.is c.place_for.ensures c.in-Some-place_for.is)
 
 pub slice_bounds-keep-end : goal.slice_bounds-keep-end
 slice_bounds-keep-end c = search editing
 
-pub slice_bounds-keep-end-in-At : goal.slice_bounds-keep-end-in-At
-slice_bounds-keep-end-in-At c = search editing
+pub slice_bounds-keep-end-in-Some-place_for : goal.slice_bounds-keep-end-in-Some-place_for
+slice_bounds-keep-end-in-Some-place_for c = search editing
 
 pub slice_bounds-put-end : goal.slice_bounds-put-end
 slice_bounds-put-end c = search editing
@@ -44,28 +44,28 @@ put-requires c =
 
 pub overflow_add-result : goal.overflow_add-result
 overflow_add-result c =
-    omega (arith, few c.args.content.now c.requires c.args.n c.args.session c.args.space c.args.first c.args.window.now c.args.journal.now c.args.value c.args.string.now c.is_inside-inside.ensures c.write_cause.ensures c.in-None.is c.place_for.ensures c.in-At.is)
+    omega (arith, few c.args.content.now c.requires c.args.n c.args.session c.args.space c.args.first c.args.window.now c.args.journal.now c.args.value c.args.string.now c.is_inside-inside.ensures c.write_cause.ensures c.in-None.is c.place_for.ensures c.in-Some-place_for.is)
 
-pub returns-in-Nothing-clause-answer : goal.returns-in-Nothing-clause-answer
-returns-in-Nothing-clause-answer c =
-    full_told c.args.content.now c.requires c.args.n c.args.session c.args.space c.args.first c.args.window.now c.args.journal.now c.args.value c.args.string.now c.is_inside-inside.ensures c.write_cause.ensures c.in-None.is c.place_for.ensures c.in-Nothing.is
+pub returns-in-None-place_for-clause-answer : goal.returns-in-None-place_for-clause-answer
+returns-in-None-place_for-clause-answer c =
+    full_told c.args.content.now c.requires c.args.n c.args.session c.args.space c.args.first c.args.window.now c.args.journal.now c.args.value c.args.string.now c.is_inside-inside.ensures c.write_cause.ensures c.in-None.is c.place_for.ensures c.in-None-place_for.is
 
-pub returns-in-Nothing-clause-bytes : goal.returns-in-Nothing-clause-bytes
-returns-in-Nothing-clause-bytes c =
-    full_window c.args.content.now c.requires c.args.n c.args.session c.args.space c.args.first c.args.window.now c.args.journal.now c.args.value c.args.string.now c.is_inside-inside.ensures c.write_cause.ensures c.in-None.is c.place_for.ensures c.in-Nothing.is
+pub returns-in-None-place_for-clause-bytes : goal.returns-in-None-place_for-clause-bytes
+returns-in-None-place_for-clause-bytes c =
+    full_window c.args.content.now c.requires c.args.n c.args.session c.args.space c.args.first c.args.window.now c.args.journal.now c.args.value c.args.string.now c.is_inside-inside.ensures c.write_cause.ensures c.in-None.is c.place_for.ensures c.in-None-place_for.is
 
-pub returns-in-Nothing-clause-kept : goal.returns-in-Nothing-clause-kept
-returns-in-Nothing-clause-kept c =
-    full_journal c.args.content.now c.requires c.args.n c.args.session c.args.space c.args.first c.args.window.now c.args.journal.now c.args.value c.args.string.now c.is_inside-inside.ensures c.write_cause.ensures c.in-None.is c.place_for.ensures c.in-Nothing.is
+pub returns-in-None-place_for-clause-kept : goal.returns-in-None-place_for-clause-kept
+returns-in-None-place_for-clause-kept c =
+    full_journal c.args.content.now c.requires c.args.n c.args.session c.args.space c.args.first c.args.window.now c.args.journal.now c.args.value c.args.string.now c.is_inside-inside.ensures c.write_cause.ensures c.in-None.is c.place_for.ensures c.in-None-place_for.is
 
-pub returns-in-At-clause-answer : goal.returns-in-At-clause-answer
-returns-in-At-clause-answer c =
-    stands_told c.args.content.now c.requires c.args.n c.args.session c.args.space c.args.first c.args.window.now c.args.journal.now c.args.value c.args.string.now c.is_inside-inside.ensures c.write_cause.ensures c.in-None.is c.place_for.ensures c.in-At.is
+pub returns-in-Some-place_for-clause-answer : goal.returns-in-Some-place_for-clause-answer
+returns-in-Some-place_for-clause-answer c =
+    stands_told c.args.content.now c.requires c.args.n c.args.session c.args.space c.args.first c.args.window.now c.args.journal.now c.args.value c.args.string.now c.is_inside-inside.ensures c.write_cause.ensures c.in-None.is c.place_for.ensures c.in-Some-place_for.is
 
-pub returns-in-At-clause-bytes : goal.returns-in-At-clause-bytes
-returns-in-At-clause-bytes c =
-    stands_window c.args.content.now c.requires c.args.n c.args.session c.args.space c.args.first c.args.window.now c.args.journal.now c.args.value c.args.string.now c.is_inside-inside.ensures c.write_cause.ensures c.in-None.is c.place_for.ensures c.in-At.is _ c.put.ensures
+pub returns-in-Some-place_for-clause-bytes : goal.returns-in-Some-place_for-clause-bytes
+returns-in-Some-place_for-clause-bytes c =
+    stands_window c.args.content.now c.requires c.args.n c.args.session c.args.space c.args.first c.args.window.now c.args.journal.now c.args.value c.args.string.now c.is_inside-inside.ensures c.write_cause.ensures c.in-None.is c.place_for.ensures c.in-Some-place_for.is _ c.put.ensures
 
-pub returns-in-At-clause-kept : goal.returns-in-At-clause-kept
-returns-in-At-clause-kept c =
-    stands_journal c.args.content.now c.requires c.args.n c.args.session c.args.space c.args.first c.args.window.now c.args.journal.now c.args.value c.args.string.now c.is_inside-inside.ensures c.write_cause.ensures c.in-None.is c.place_for.ensures c.in-At.is _ c.keep.ensures
+pub returns-in-Some-place_for-clause-kept : goal.returns-in-Some-place_for-clause-kept
+returns-in-Some-place_for-clause-kept c =
+    stands_journal c.args.content.now c.requires c.args.n c.args.session c.args.space c.args.first c.args.window.now c.args.journal.now c.args.value c.args.string.now c.is_inside-inside.ensures c.write_cause.ensures c.in-None.is c.place_for.ensures c.in-Some-place_for.is _ c.keep.ensures
