@@ -1,5 +1,6 @@
 // The library of backups as C and other languages link it: a window stored in blocks that a shop can inspect, and read back. It needs nothing of the
 // planner. Every call has a C name, takes slices as a pointer and a length, asks nothing of its caller, and returns 0 or the number of the refusal.
+// One function for each name, with numbers lent for what is handed out: the C interface needs it.
 #![tactic(auto)]
 
 ghost use Rattle.std.specs.Prelude.{◌≡◌};

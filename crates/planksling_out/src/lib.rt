@@ -1,5 +1,6 @@
 // What the library hands out: the number of a refusal or 0 as the result, the place of a refusal and the values of an accepted call through single
 // numbers. An accepted call writes every value and leaves the place as it was; a refused one writes the place and leaves the values.
+// A number, and no `Result`: the C interface needs it.
 #![tactic(auto)]
 
 ghost use Rattle.std.specs.Prelude.{◌≡◌};

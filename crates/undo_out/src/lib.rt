@@ -1,4 +1,5 @@
 // What edits and undos hand out: the number of a refusal or 0 as the result, its place, and how many edits stand, through the session value that is lent.
+// A number, and no `Result`: the C interface needs it.
 #![tactic(auto)]
 
 ghost use Rattle.std.specs.Prelude.{◌≡◌};
