@@ -81,9 +81,7 @@ fn write(
     ensures after { window.new ≡ window_after text.now table.now n (window_of space first window.old) (wanted_of value string.now) }
 {
     let end = check(text, table)?;
-    write_known(
-        text, end, table, n, space, first, window, value, string,
-    )
+    write_known(text, end, table, n, space, first, window, value, string)
 }
 
 // Writes an integer, a sign and a magnitude, into variable `n`. The window has these bytes of a space, from `first` on.
@@ -140,7 +138,14 @@ pub fn write_text(
 }
 
 // Reads variable `n`: its value, and whether writing that value now would be accepted.
-pub fn read(text: &[u8], table: &[i64], n: u64, space: u64, first: u64, window: &[u8]) -> Result<Reading, Refusal>
+pub fn read(
+    text: &[u8],
+    table: &[i64],
+    n: u64,
+    space: u64,
+    first: u64,
+    window: &[u8],
+) -> Result<Reading, Refusal>
     ensures is { reading_of window.now result ≡ read text.now table.now n (window_of space first window.now) }
     ensures at { ReadAt (start_for text.now table.now n first) window.now result }
 {

@@ -11,7 +11,11 @@ use frames::read_number;
 
 // The variable's number, which a session has not.
 fn variable(first: u8) -> Option<u64> {
-    if first == b'J' { Some(0) } else { read_number() }
+    if first == b'J' {
+        Some(0)
+    } else {
+        read_number()
+    }
 }
 
 // The rest of a frame behind its window, by its first byte.

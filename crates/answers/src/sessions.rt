@@ -8,8 +8,8 @@ use answers_out::outcomes::tell_outcomes;
 use answers_out::{tell, words};
 use frames_hash::{hash_bytes, with_number};
 use frames_signed::signed;
-use undo::{edit_event, edit_integer, edit_text, undo};
 use refusals::Refusal;
+use undo::{edit_event, edit_integer, edit_text, undo};
 
 // ── operations ──
 

@@ -28,11 +28,13 @@ pub fn reading(text: &[u8], table: &[i64], n: u64, held: Held, window: &[u8]) ->
 {
     let answer = read(text, table, n, held.space, held.first, window);
     match answer {
-        Ok(Reading::Integer {
-            negative,
-            magnitude,
-            writable,
-        }) => {
+        Ok(
+            Reading::Integer {
+                negative,
+                magnitude,
+                writable,
+            },
+        ) => {
             let word = either(negative, words::NEGATIVE, words::INTEGER);
             flagged(one(word, magnitude), writable)
         }
