@@ -44,14 +44,10 @@ pub fn put_kind(out: &mut [u8], at: usize, kind: u64) -> usize
     ensures put { take result out.new ≡ take at out.old ++ kind_word kind }
     ensures ends { result ≤ at + 8 }
 {
-    if kind == INT {
-        return put_all(out, at, b" int");
+    match kind {
+        INT => put_all(out, at, b" int"),
+        STRING => put_all(out, at, b" string"),
+        EVENTID => put_all(out, at, b" eventid"),
+        _ => put_all(out, at, b" float"),
     }
-    if kind == STRING {
-        return put_all(out, at, b" string");
-    }
-    if kind == EVENTID {
-        return put_all(out, at, b" eventid");
-    }
-    put_all(out, at, b" float")
 }

@@ -1,14 +1,14 @@
 use Rattle.lines_items.proofs.Putting.{parts}
 use Rattle.lines_items.proofs.put_kind.Goals as goal
 
-pub returns-then-kind-eq-INT-clause-put : goal.returns-then-kind-eq-INT-clause-put
-returns-then-kind-eq-INT-clause-put c = search parts
+pub returns-in-3-clause-put : goal.returns-in-3-clause-put
+returns-in-3-clause-put c = search parts
 
-pub returns-then-kind-eq-STRING-clause-put : goal.returns-then-kind-eq-STRING-clause-put
-returns-then-kind-eq-STRING-clause-put c = search parts
+pub returns-in-4-clause-put : goal.returns-in-4-clause-put
+returns-in-4-clause-put c = search parts
 
-pub returns-then-kind-eq-EVENTID-clause-put : goal.returns-then-kind-eq-EVENTID-clause-put
-returns-then-kind-eq-EVENTID-clause-put c = search parts
+pub returns-in-5-clause-put : goal.returns-in-5-clause-put
+returns-in-5-clause-put c = search parts
 
-pub returns-clause-put : goal.returns-clause-put
-returns-clause-put c = search parts
+pub returns-in_default-clause-put : goal.returns-in_default-clause-put
+returns-in_default-clause-put c = search parts
