@@ -7,14 +7,11 @@ use Rattle.cdi.specs.Faults.{Fault, Answer}
 use Rattle.cdi.proofs.Quiet.{impossible, same_accepted, same_refused}
 use Rattle.undo_model.specs.Sessions.{State}
 use Rattle.undo_entries.specs.Begun.{Head, begun_of, last_of}
-use Rattle.undo_entries.specs.declared.Begun.{Begun}
-use Rattle.undo_entries.specs.declared.Begun.TheVariants as begun
 use Rattle.undo_entries.specs.declared.Last.{Last}
-use Rattle.undo_entries.specs.declared.Last.TheVariants as last
 use Rattle.undo_edit.specs.Told.{outcome_of, window_left, journal_left}
 use Rattle.refusals.specs.declared.Refusal.{Refusal}
 use Rattle.refusals.specs.Refusals.{refusal}
-use Rattle.std.specs.Prelude.{Result, Ok, Err}
+use Rattle.std.specs.Prelude.{Result, Ok, Err, Some, None, Option as Maybe}
 
 module _ {A : Type 0} where
   once : {x r q : A} → r ≡ x → q ≡ x → r ≡ q
@@ -22,34 +19,32 @@ module _ {A : Type 0} where
 
 -- ── entries ──
 
-begun_alike : (r q : Begun) → begun_of r ≡ begun_of q → r ≡ q
+begun_alike : (r q : Maybe ℕ) → begun_of r ≡ begun_of q → r ≡ q
 unfolding begun_of
-begun_alike (begun.At i) (begun.At j) z = cc
-begun_alike (begun.At i) begun.Nothing z = impossible (cc)
-begun_alike begun.Nothing (begun.At j) z = impossible (cc)
-begun_alike begun.Nothing begun.Nothing z = refl
+begun_alike (Some i) (Some j) z = cc
+begun_alike (Some i) None z = impossible (cc)
+begun_alike None (Some j) z = impossible (cc)
+begun_alike None None z = refl
 
 -- of undo_entries::place_for
-pub place_once : (a : Option ℕ) (r q : Begun) → begun_of r ≡ a → begun_of q ≡ a → r ≡ q
+pub place_once : (a : Option ℕ) (r q : Maybe ℕ) → begun_of r ≡ a → begun_of q ≡ a → r ≡ q
 place_once a r q e f = begun_alike r q (once e f)
 
 same_head : {x y : Head} → some x ≡ some y → x ≡ y
 same_head e = cc
 
-last_alike : (r q : Last) → last_of r ≡ last_of q → r ≡ q
+abbrev latest : Head → Last
+latest x = record { number = x.number; size = x.size; from = x.from }
+
+last_alike : (r q : Maybe Last) → last_of r ≡ last_of q → r ≡ q
 unfolding last_of
-last_alike (last.At n z i) (last.At m y j) e =
-    let h = same_head e in
-    let a = ap (λ (x : Head). x.number) h in
-    let b = ap (λ (x : Head). x.size) h in
-    let c = ap (λ (x : Head). x.from) h in
-    cc
-last_alike (last.At n z i) last.Nothing e = impossible (cc)
-last_alike last.Nothing (last.At m y j) e = impossible (cc)
-last_alike last.Nothing last.Nothing e = refl
+last_alike (Some l) (Some m) e = ap (λ x. Some (latest x)) (same_head e)
+last_alike (Some l) None e = impossible (cc)
+last_alike None (Some m) e = impossible (cc)
+last_alike None None e = refl
 
 -- of undo_entries::last_of
-pub last_once : (a : Option Head) (r q : Last) → last_of r ≡ a → last_of q ≡ a → r ≡ q
+pub last_once : (a : Option Head) (r q : Maybe Last) → last_of r ≡ a → last_of q ≡ a → r ≡ q
 last_once a r q e f = last_alike r q (once e f)
 
 -- ── edits and undos ──
