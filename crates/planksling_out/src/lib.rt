@@ -38,9 +38,9 @@ pub fn tell_planned(
             *variables = found.variables;
             0
         }
-        Err(refusal) => {
-            *place = refusal.place;
-            refusal.number
+        Err(unplanned) => {
+            *place = unplanned.place;
+            unplanned.number
         }
     }
 }
