@@ -5,13 +5,15 @@ use mathlib.Core.Bool.{Bool}
 use Prim.Native.Nat.{ℕ, ◌≤◌}
 use borrow.Author.Rules.{rules}
 use lib.ListN.{length}
+use Rattle.std.specs.Prelude.{Result, Ok}
+use Rattle.refusals.specs.declared.Refusal.{Refusal}
 use Rattle.access_reading.specs.Told.{ReadAt}
 use Rattle.access_reading.specs.declared.Reading.{Reading}
 use Rattle.access_reading.specs.declared.Reading.TheVariants.{Text}
 
-module _ (at : ℕ) (bytes : List ℕ) (r : Reading) (i j : ℕ) (f : Bool) (h : ReadAt at bytes r) (e : r ≡ Text i j f) where
-  place : ReadAt at bytes (Text i j f)
-  place = subst (λ (x : Reading). ReadAt at bytes x) e h
+module _ (at : ℕ) (bytes : List ℕ) (r : Result Reading Refusal) (i j : ℕ) (f : Bool) (h : ReadAt at bytes r) (e : r ≡ Ok (Text i j f)) where
+  place : ReadAt at bytes (Ok (Text i j f))
+  place = subst (λ (x : Result Reading Refusal). ReadAt at bytes x) e h
 
   pub text_begins : i ≤ j
   unfolding ReadAt
