@@ -1,3 +1,4 @@
+pub mod Letters
 pub mod Numbering
 pub mod Complements
 pub mod Padding

@@ -7,6 +7,7 @@ ghost use Rattle.cdi.specs.Values.{bytes_of, value_of as number_of, complement, 
 ghost use Rattle.terms.specs.Wholes.{whole_of, Plain};
 ghost use Rattle.values.specs.Held.{zero_at};
 
+use scan::byte_at;
 use terms::Whole;
 
 // ── numbers ──
@@ -110,14 +111,14 @@ pub fn whole_in(part: &[u8], signed: bool) -> Whole
 // ── text ──
 
 // Fills the part with the text and zeros behind it.
-#[tactic(auto, unfolding(cdi::specs::Values::padded))]
 pub fn put_text(part: &mut [u8], text: &[u8])
     requires { length text.now ≤ length part.old }
     ensures { part.new ≡ padded (length part.old) text.now }
 {
-    let (front, back) = part.split_at_mut(text.len());
-    front.copy_from_slice(text);
-    back.fill(0);
+    // No `copy_from_slice`: tried, and the archive then needs `memmove`, which those who link it need not have.
+    for i in 0..part.len() {
+        part[i] = byte_at(text, i);
+    }
 }
 
 // Where the part has its first zero.
