@@ -7,5 +7,5 @@ loop-i-init c = search padding
 pub loop-i-preserved : goal.loop-i-preserved
 loop-i-preserved c = search padding
 
-pub ensures : goal.ensures
-ensures c = search padding
+pub returns : goal.returns
+returns c = search padding
