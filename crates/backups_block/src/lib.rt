@@ -6,6 +6,7 @@ ghost use Rattle.cdi.specs.Values.{bytes_of, padded};
 ghost use Rattle.blocks.specs.Blocks.{front_of, block};
 
 use backups_check::check_of;
+use backups_parts::copy;
 use values::put_number;
 
 // ── before the payload ──
@@ -47,7 +48,7 @@ fn put_area(part: &mut [u8], payload: &[u8])
     ensures { part.new ≡ padded (length part.old) payload.now }
 {
     let (front, rest) = part.split_at_mut(payload.len());
-    front.copy_from_slice(payload);
+    copy(front, payload);
     rest.fill(0);
 }
 

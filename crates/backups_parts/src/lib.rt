@@ -7,6 +7,16 @@ ghost use Rattle.cdi.specs.Values.{value_of as number_of};
 ghost use Rattle.blocks.specs.Blocks.{space};
 ghost use Rattle.blocks.specs.Backups.{last_flag};
 
+// Copies bytes to as many. No `copy_from_slice`: tried, and the archive then needs `memmove`, which those who link it need not have.
+pub fn copy(part: &mut [u8], bytes: &[u8])
+    requires { length part.old ≡ length bytes.now }
+    ensures { part.new ≡ bytes.now }
+{
+    for i in 0..part.len() {
+        part[i] = bytes[i];
+    }
+}
+
 // The number that two bytes are.
 pub fn pair_in(part: &[u8]) -> u64
     requires { length part.now ≡ 2 }

@@ -7,7 +7,7 @@ ghost use Rattle.blocks.specs.Backups.{kept, output_after, first_bad, payloads, 
 ghost use Rattle.backups_reading.specs.Told.{read_of, with_payload};
 
 use backups_judge::first_bad;
-use backups_parts::{pair_in, payload_end, space_of};
+use backups_parts::{copy, pair_in, payload_end, space_of};
 use refusals::Refusal;
 
 // What is told of a window that was read: the number of its bytes, and its space.
@@ -35,7 +35,7 @@ fn put_payload(out: &mut [u8], position: usize, b: &[u8])
     let from = 502 * position;
     let to = payload_end(from, out.len());
     let at = 512 * position + 8;
-    out[from..to].copy_from_slice(&b[at..at + (to - from)]);
+    copy(&mut out[from..to], &b[at..at + (to - from)]);
 }
 
 // Fills the output with the payloads of so many good blocks.
