@@ -26,7 +26,8 @@ use Rattle.children.specs.Siblings.{ahead}
 use Rattle.children.proofs.Turning.{nothing_ahead}
 use Rattle.contents.specs.declared.Role.{Role}
 use Rattle.contents.specs.declared.Role.TheVariants as role
-use Rattle.contents.specs.Own.{role_of, is_end, text_of, Told}
+use Rattle.contents.specs.declared.Own.{Own}
+use Rattle.contents.specs.Own.{role_of, is_end, text_at, Within, Lies, text_of, Told}
 
 -- ── what is to come, by the piece that stands there ──
 
@@ -158,7 +159,7 @@ module _ {s : List ℕ} {at i : ℕ} (w : Same s at i) where
   pub end_out : length s ≤ i → true ≡ is_end (here s at)
   end_out h = absurd (out h)
 
-  pub own_out : length s ≤ i → Told s at std.None
+  pub own_out : length s ≤ i → Lies s at std.None
   own_out h = absurd (out h)
 
   module _ {c : Cut} (v : Stands s i c) {r : Role} (e : r ≡ role_of c.kind) where
@@ -197,29 +198,29 @@ module _ {s : List ℕ} {at i : ℕ} (w : Same s at i) where
 
     -- ── one run of text ──
 
-    not_own : own_text (here s i) ≡ none → Told s at std.None
-    unfolding text_of
-    not_own q = record { is = sym (ap own_text here_is ∙ q) }
+    not_own : own_text (here s i) ≡ none → Lies s at std.None
+    unfolding text_at Within
+    not_own q = record { is = sym (ap own_text here_is ∙ q); within = tt }
 
-    own_end : r ≡ role.End → Told s at std.None
+    own_end : r ≡ role.End → Lies s at std.None
     unfolding own_text
     own_end q = not_own (ap own_text (at_end v e q))
 
-    own_character : r ≡ role.Character → Told s at std.None
+    own_character : r ≡ role.Character → Lies s at std.None
     unfolding own_text tree top
     own_character q = not_own (ap (λ (fs : List Nodes). own_text (top fs)) (at_character v e q))
 
-    own_dropped : r ≡ role.Dropped → Told s at std.None
+    own_dropped : r ≡ role.Dropped → Lies s at std.None
     unfolding own_text tree top
     own_dropped q = not_own (ap (λ (fs : List Nodes). own_text (top fs)) (at_dropped v e q))
 
-    own_element : r ≡ role.Element → Told s at std.None
+    own_element : r ≡ role.Element → Lies s at std.None
     own_element q = not_own (at_element v e q (rw w.is at w.deep)).1
 
-    pub own_other : (r ≡ role.Run → ⊥) → (r ≡ role.Nothing → ⊥) → Told s at std.None
+    pub own_other : (r ≡ role.Run → ⊥) → (r ≡ role.Nothing → ⊥) → Lies s at std.None
     own_other a b = by r refl
       where
-        by : (o : Role) → r ≡ o → Told s at std.None
+        by : (o : Role) → r ≡ o → Lies s at std.None
         by role.Run q = absurd (a q)
         by role.Character q = own_character q
         by role.Element q = own_element q
@@ -243,12 +244,34 @@ module _ {s : List ℕ} {at i : ℕ} (w : Same s at i) where
         by (other p d following) z = let k : b ≡ false = sym h ∙ ap is_end z in rw (z, k)
 
     module _ (q : r ≡ role.Run) {b : Bool} (h : b ≡ is_end (here s c.end)) where
-      pub own_run : b ≡ true → {t : Bor (List ℕ)} → t.now ≡ part s i c.end → Told s at (std.Some t)
-      unfolding text_of
-      own_run t z = record { is = ap some z ∙ sym (ap own_text here_is ∙ run_text q true (sym h ∙ t) _ refl) }
+      pub own_run : b ≡ true → Lies s at (std.Some (record { from = i; to = c.end }))
+      unfolding text_at Within
+      own_run t = record { is = sym (ap own_text here_is ∙ run_text q true (sym h ∙ t) _ refl); within = (omega (arith, v.cut.low), v.cut.high) }
 
-      pub own_more : b ≡ false → Told s at std.None
+      pub own_more : b ≡ false → Lies s at std.None
       own_more t = not_own (run_text q false (sym h ∙ t) _ refl)
+
+-- ── its bytes ──
+
+module _ {s : List ℕ} {at : ℕ} {r : std.Option Own} (w : Lies s at r) where
+  module _ {o : Own} (e : r ≡ std.Some o) where
+    own_within : (o.from ≤ o.to) × (o.to ≤ length s)
+    unfolding Within
+    own_within = rw e at w.within
+
+    pub own_low : o.from ≤ o.to
+    own_low = own_within.0
+
+    pub own_high : o.to ≤ length s
+    own_high = own_within.1
+
+    pub own_bytes : {t : Bor (List ℕ)} → t.now ≡ part s o.from o.to → Told s at (std.Some t)
+    unfolding text_at text_of
+    own_bytes z = record { is = ap some z ∙ sym (ap (text_at s) e) ∙ w.is }
+
+  pub own_nothing : r ≡ std.None → Told s at std.None
+  unfolding text_at text_of
+  own_nothing e = record { is = sym (ap (text_at s) e) ∙ w.is }
 
 -- ── its number ──
 

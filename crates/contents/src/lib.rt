@@ -10,7 +10,7 @@ ghost use Rattle.pieces_characters.specs.Characters.{utf8_of};
 ghost use Rattle.numbers.specs.Held.{number_of};
 ghost use Rattle.levels.specs.Ahead.{here};
 ghost use Rattle.children.specs.Siblings.{InLevel};
-ghost use Rattle.contents.specs.Own.{role_of, is_end, Told, behind_of};
+ghost use Rattle.contents.specs.Own.{role_of, is_end, Lies, Told, behind_of};
 
 use children::{Pieces, Placed, after};
 use numbers::{Signed, read_number};
@@ -27,6 +27,13 @@ pub enum Role {
     Dropped,
     End,
     Nothing,
+}
+
+// One run of text and nothing else, from a place to before another.
+#[derive(Clone, Copy)]
+pub struct Own {
+    pub from: usize,
+    pub to: usize,
 }
 
 #[tactic(auto, unfolding(crate::specs::Own::role_of))]
@@ -58,19 +65,35 @@ fn is_end(s: &[u8], at: usize) -> bool
     true
 }
 
-// The one run of text that is to come at the level of this place, and nothing else.
-pub fn own_text(s: &[u8], at: usize) -> Option<&[u8]>
+// Where the one run of text stands that is to come at the level of this place, and nothing else.
+pub fn own_place(s: &[u8], at: usize) -> Option<Own>
     requires { InLevel s.now at }
-    ensures { Told s.now at result }
+    ensures { Lies s.now at result }
 {
-    for Placed { place, cut } in (Pieces { content: s, at }) {
+    for Placed { place: from, cut } in (Pieces { content: s, at }) {
         match role_of(cut.kind) {
-            Role::Run if is_end(s, cut.end) => return Some(&s[place..cut.end]),
+            Role::Run => {
+                if is_end(s, cut.end) {
+                    return Some(Own { from, to: cut.end });
+                }
+                return None;
+            }
             Role::Nothing => {}
             _ => return None,
         }
     }
     None
+}
+
+// The one run of text that is to come at the level of this place, and nothing else.
+pub fn own_text(s: &[u8], at: usize) -> Option<&[u8]>
+    requires { InLevel s.now at }
+    ensures { Told s.now at result }
+{
+    match own_place(s, at) {
+        Some(own) => Some(&s[own.from..own.to]),
+        None => None,
+    }
 }
 
 // The number that the one run of text is.
