@@ -57,10 +57,11 @@ pub struct Kept {
 pub fn journal_of(journal: &mut [u8]) -> Option<Kept>
     ensures { IfSome result (λ k. k.journal ≤ length journal.old) }
 {
-    let size = read_part(journal)?;
+    // The session value is read behind a journal that is too long, too: what is taken from the input stays the same.
+    let size = read_part(journal);
     let session = read_number()?;
     Some(Kept {
-        journal: size,
+        journal: size?,
         session,
     })
 }

@@ -3,7 +3,11 @@
 #![tactic(auto)]
 
 ghost use Rattle.std.specs.Prelude.{◌≡◌, true, ◌*◌, ◌≤◌, IfSome, length};
+ghost use Rattle.std.specs.Int.{w64, from_be_bytes};
+ghost use Rattle.cdi.specs.Values.{uncomplement};
 ghost use Rattle.frames.specs.Limits.{keeps};
+
+use frames_signed::signed;
 
 // The next byte, if there is one.
 pub fn read_byte() -> Option<u8> {
@@ -57,6 +61,13 @@ pub fn read_part(buffer: &mut [u8]) -> Option<usize>
     }
 }
 
+// Eight bytes as a number with its sign.
+fn number_of(bytes: [u8; 8]) -> i64
+    ensures { result ≡ uncomplement true 8 (from_be_bytes w64 bytes) }
+{
+    signed(u64::from_be_bytes(bytes))
+}
+
 // The numbers of a block to the front of a part of the table.
 fn decode(block: &[u8], part: &mut [i64])
     requires { length part.old * 8 ≤ length block.now }
@@ -64,7 +75,7 @@ fn decode(block: &[u8], part: &mut [i64])
     for (i, number) in part.iter_mut().enumerate() {
         let mut b = [0u8; 8];
         b.copy_from_slice(&block[i * 8..i * 8 + 8]);
-        *number = i64::from_be_bytes(b);
+        *number = number_of(b);
     }
 }
 
