@@ -33,5 +33,6 @@ pub fn is_formatting(pattern: &[u8]) -> bool
         return false;
     };
     let end = scan::span(tail, 0, scan::Class::Decimal);
-    is_tail(tail) || is_fraction(&tail[end..])
+    let rest = &tail[end..];
+    scan::same(rest, b"f") || is_fraction(rest)
 }

@@ -3,14 +3,25 @@
 
 ghost use Rattle.std.specs.Prelude.{◌≡◌, ◌≤◌, length, drop};
 ghost use Rattle.cdi.specs.Lists.{any};
-ghost use Rattle.cdi.specs.Pieces.{is_quote, attributes, bears};
+ghost use Rattle.cdi.specs.Pieces.{blank, is_quote, attributes, bears};
 ghost use Rattle.cdi.specs.Markup.{refers};
+ghost use Rattle.scan.specs.Spans.{Span};
 ghost use Rattle.pieces_attributes.specs.Found.{Value, Placed, Follows};
 
 use pieces_cuts::names::name_end;
 use pieces_cuts::places::Attribute;
 use scan::{begins_at, holds, same};
-use spans::{blanks, value_rest};
+use spans::value_rest;
+
+// The place behind the blanks that stand at this place. It isn't compiled into its callers, whose many other numbers would leave its loop no register:
+// long blanks took twice as long.
+#[inline(never)]
+fn blanks(s: &[u8], at: usize) -> usize
+    requires { at ≤ length s.now }
+    ensures { Span blank s.now at result }
+{
+    spans::blanks(s, at)
+}
 
 // Does a value stand in this quote?
 fn is_quote(b: u8) -> bool

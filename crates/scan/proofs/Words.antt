@@ -44,15 +44,7 @@ module _ {s : List ℕ} {at : ℕ} {word : List ℕ} {i : ℕ} (v : Agrees s at 
 pub start : (s : List ℕ) (at : ℕ) (word : List ℕ) → Agrees s at word 0
 start s at word = record { left = rw add-zero }
 
--- the library compares a word with as many bytes
-front_begins : (w s : List ℕ) → pointwise eqb w (take (length w) s) ≡ begins w s
-unfolding begins
-front_begins [] s = refl
-front_begins (x ∷ w) [] = refl
-front_begins (x ∷ w) (y ∷ s) = ap (λ r. eqb x y && r) (front_begins w s)
-
-pub begun : (w s : List ℕ) (at n : ℕ) → length s - at ≤ n → pointwise eqb w (take (length w) (take n (drop at s))) ≡ begins w (drop at s)
-begun w s at n h = let l : length (drop at s) ≤ n = omega (arith, length-drop at s) in rw (take_all n (drop at s) l) (front_begins w (drop at s))
+pub ruleset word_loop = (start, full, short, differs, agrees, rules)
 
 -- a word that a text begins with is no longer than the text
 pub begun_length : (w s : List ℕ) → begins w s ≡ true → length w ≤ length s

@@ -40,7 +40,9 @@ pub fn name_rest(s: &[u8], at: usize) -> usize
     span_while(s, at, |b| is_name_byte(b))
 }
 
-// The place behind the bytes of a value in this quote that stand at this place.
+// The place behind the bytes of a value in this quote that stand at this place. It isn't compiled into its callers, whose many other numbers would leave
+// its loop no register: long values took twice as long.
+#[inline(never)]
 pub fn value_rest(s: &[u8], at: usize, quote: u8) -> usize
     requires { at ≤ length s.now }
     ensures { Span (of_class (Value quote)) s.now at result }
