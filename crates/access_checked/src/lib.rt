@@ -12,7 +12,7 @@ use locate_rows::is_same;
 use plan_opening::open_text;
 use plan_outline::outline;
 use plan_stages::Planned;
-use plan_table::{FEW, MANY, MORE};
+use plan_table::{FEW_NUMBERS, MANY_NUMBERS, MORE_NUMBERS};
 use refusals::Refusal;
 use terms::FIELDS;
 
@@ -64,13 +64,13 @@ fn compare(content: &[u8], table: &[i64]) -> Result<usize, Refusal>
     requires { (22 ≤ length content.now) × (length content.now ≤ 65535) }
     ensures { checked_of result ≡ compared_of content.now table.now }
 {
-    if table.len() <= FEW {
-        return compare_in::<FEW>(content, table);
+    if table.len() <= FEW_NUMBERS {
+        return compare_in::<FEW_NUMBERS>(content, table);
     }
-    if table.len() <= MORE {
-        return compare_in::<MORE>(content, table);
+    if table.len() <= MORE_NUMBERS {
+        return compare_in::<MORE_NUMBERS>(content, table);
     }
-    compare_in::<MANY>(content, table)
+    compare_in::<MANY_NUMBERS>(content, table)
 }
 
 // The end of the text's content, where the text is accepted and the table exactly the one planned from it; or the refusal.

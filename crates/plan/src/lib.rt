@@ -10,7 +10,7 @@ ghost use Rattle.plan_stages.specs.Outlines.{answer_of, of_markup, planned_by, a
 use plan_opening::open_text;
 use plan_outline::outline;
 use plan_stages::Planned;
-use plan_table::{FEW, MANY, MORE, has_room, put};
+use plan_table::{FEW_NUMBERS, MANY_NUMBERS, MORE_NUMBERS, has_room, put};
 use refusals::Refusal;
 
 // Content up to these lengths seldom has more records.
@@ -49,16 +49,16 @@ fn plan_content(content: &[u8], table: &mut [i64]) -> Result<Planned, Refusal>
     ensures after { table.new ≡ after_by (of_markup content.now) table.old }
 {
     if content.len() <= SHORT
-        && let Some(told) = plan_in::<FEW>(content, table)
+        && let Some(told) = plan_in::<FEW_NUMBERS>(content, table)
     {
         return told;
     }
     if content.len() <= LONGER
-        && let Some(told) = plan_in::<MORE>(content, table)
+        && let Some(told) = plan_in::<MORE_NUMBERS>(content, table)
     {
         return told;
     }
-    plan_in::<MANY>(content, table).unwrap()
+    plan_in::<MANY_NUMBERS>(content, table).unwrap()
 }
 
 // The plan of a text: its records stand at the front of the table and the rest of it is unchanged, or it is refused and the whole table is

@@ -9,12 +9,19 @@ use plan_stages::Planned;
 use refusals::Refusal;
 use terms::{FIELDS, MOST_ELEMENTS};
 
-// The lengths of rows: for as few records as most texts have, for more, or for as many as a description can have.
-pub const FEW: usize = FIELDS * 128;
+// Rows have room for so many records: as few as most texts have, more, or as many as a description can have.
+pub const FEW: usize = 128;
 
-pub const MORE: usize = FIELDS * 1024;
+pub const MORE: usize = 1024;
 
-pub const MANY: usize = FIELDS * MOST_ELEMENTS;
+pub const MANY: usize = MOST_ELEMENTS;
+
+// The lengths of such rows.
+pub const FEW_NUMBERS: usize = FIELDS * FEW;
+
+pub const MORE_NUMBERS: usize = FIELDS * MORE;
+
+pub const MANY_NUMBERS: usize = FIELDS * MANY;
 
 // Have the rows room for so many records?
 pub fn has_room(rows: &[i64], records: usize) -> bool
