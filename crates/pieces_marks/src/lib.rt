@@ -18,6 +18,10 @@ fn find(s: &[u8], at: usize, word: &[u8]) -> Option<usize>
     ensures { Beyond word.now s.now at result }
 {
     for i in at..s.len() {
+        // Asked once for the whole word, so that the compiler needn't ask it for each byte.
+        if s.len() - i < word.len() {
+            return None;
+        }
         if begins_at(s, i, word) {
             return Some(i + word.len());
         }
